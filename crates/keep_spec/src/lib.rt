@@ -1,0 +1,12 @@
+//! The plain types that definitions name, and in `specs/` the definitions on texts that the contracts of the other crates cite.
+#![tactic(auto)]
+
+mod bytes;
+mod digest;
+mod items;
+mod memory;
+
+pub use bytes::Bytes;
+pub use digest::Digest;
+pub use items::Items;
+pub use memory::NoMemory;
