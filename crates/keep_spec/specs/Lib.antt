@@ -1,2 +1,3 @@
 pub mod Causes
+pub mod Json
 pub mod Lines
