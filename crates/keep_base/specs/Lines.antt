@@ -1,0 +1,55 @@
+-- What the lines of a source tell.
+use Rattle.std.specs.Prelude.{◌≡◌, ℕ, ◌+◌, List, [], ◌∷◌, length, drop, Option, None, Some, Result, Ok, Err, ⊤}
+use Rattle.std.specs.Io.KnownBytes.{prepend_known}
+use Rattle.keep_spec.specs.Lines.{cut, text_of, Verdict, fits, line_too_long, input_too_long, verdict_of}
+use Rattle.keep_base.specs.declared.lines.Line.{Line}
+use Rattle.keep_base.specs.declared.lines.Lines.{Lines}
+use Rattle.keep_base.specs.declared.stream.Source.{Ghosts}
+use Rattle.keep_base.specs.declared.lines.LineError.{LineError}
+use Rattle.keep_base.specs.declared.lines.LineError.TheVariants.{ReadFault, LineTooLong, InputTooLong, NoMemory}
+use Rattle.keep_base.specs.declared.lines.TheConstants.{LINE_MAX, INPUT_MAX}
+
+-- the bytes that no line was given of, where the source tells
+abbrev pub lines_left : {R : Type 0} {G : Ghosts R} → Lines R G → Option (List ℕ)
+lines_left {R} {G} lines = prepend_known (drop lines.start lines.pending.items) (G.left lines.source.now)
+
+-- the error that it answers from now on
+abbrev pub lines_failed : {R : Type 0} {G : Ghosts R} → Lines R G → Option LineError
+lines_failed lines = lines.failed
+
+-- how many bytes and how many lines were given
+abbrev pub lines_taken : {R : Type 0} {G : Ghosts R} → Lines R G → ℕ
+lines_taken lines = lines.taken
+
+abbrev pub lines_number : {R : Type 0} {G : Ghosts R} → Lines R G → ℕ
+lines_number lines = lines.number
+
+-- the source, and the reference to it
+abbrev pub lines_source : {R : Type 0} {G : Ghosts R} → Lines R G → R
+lines_source lines = lines.source.now
+
+abbrev pub lines_name : {R : Type 0} {G : Ghosts R} → Lines R G → ℕ
+lines_name lines = lines.source.ghost_name
+
+-- the piece that comes next of these bytes has this verdict
+abbrev pub IsNextJudged : ℕ → List ℕ → Verdict → Type 0
+IsNextJudged taken bytes verdict = (piece : List ℕ) × ((rest : List (List ℕ)) × ((cut bytes ≡ piece ∷ rest) × (verdict_of LINE_MAX INPUT_MAX taken (length (text_of piece)) (length piece) ≡ verdict)))
+
+-- a line of these bytes is given, and these are left
+pub record IsGiven (taken taken_after : ℕ) (bytes left text : List ℕ) : Type 0 where
+  pub piece : List ℕ
+  pub first : cut bytes ≡ piece ∷ cut left
+  pub text_is : text ≡ text_of piece
+  pub taken_is : taken_after ≡ taken + length piece
+  pub fits_in : verdict_of LINE_MAX INPUT_MAX taken (length text) (length piece) ≡ fits
+
+-- what comes next of known bytes, of which so many were taken before and so many lines given
+abbrev pub IsNext : ℕ → ℕ → Option (List ℕ) → Result (Option Line) LineError → ℕ → Option (List ℕ) → Type 0
+IsNext taken number None result taken_after left = ⊤
+IsNext taken number (Some bytes) (Ok None) taken_after left = bytes ≡ []
+IsNext taken number (Some bytes) (Ok (Some line)) taken_after None = ⊥
+IsNext taken number (Some bytes) (Ok (Some line)) taken_after (Some left) = IsGiven taken taken_after bytes left line.text
+IsNext taken number (Some bytes) (Err ReadFault) taken_after left = ⊤
+IsNext taken number (Some bytes) (Err (LineTooLong n)) taken_after left = (n ≡ number + 1) × IsNextJudged taken bytes line_too_long
+IsNext taken number (Some bytes) (Err InputTooLong) taken_after left = IsNextJudged taken bytes input_too_long
+IsNext taken number (Some bytes) (Err NoMemory) taken_after left = ⊤
