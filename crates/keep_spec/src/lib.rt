@@ -5,8 +5,10 @@ mod bytes;
 mod digest;
 mod items;
 mod memory;
+mod token;
 
 pub use bytes::Bytes;
 pub use digest::Digest;
 pub use items::Items;
 pub use memory::NoMemory;
+pub use token::TokenId;

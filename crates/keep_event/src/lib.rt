@@ -1,0 +1,12 @@
+//! Blocks, what devices are asked and answer, the events of a run, and in `specs/` what a store holds and the device machine.
+#![tactic(auto)]
+
+mod block;
+mod device;
+mod lists;
+mod names;
+
+pub use block::Block;
+pub use device::{DeviceAnswer, DeviceRules};
+pub use lists::{Entry, Lists, PullItem, TrashItem};
+pub use names::{Held, Name, Sized, Stored};
