@@ -1,3 +1,4 @@
 pub mod Causes
 pub mod Json
 pub mod Lines
+pub mod Uuid

@@ -6,9 +6,11 @@ mod digest;
 mod items;
 mod memory;
 mod token;
+mod uuid;
 
 pub use bytes::Bytes;
 pub use digest::Digest;
 pub use items::Items;
 pub use memory::NoMemory;
 pub use token::TokenId;
+pub use uuid::{BadUuid, Uuid};
