@@ -2,13 +2,16 @@
 #![tactic(auto)]
 
 mod bytes;
+mod config;
 mod digest;
+mod equality;
 mod items;
 mod memory;
 mod token;
 mod uuid;
 
 pub use bytes::Bytes;
+pub use config::{Device, Field, Mount, Server};
 pub use digest::Digest;
 pub use items::Items;
 pub use memory::NoMemory;
