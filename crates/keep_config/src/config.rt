@@ -1,4 +1,7 @@
 // A configuration, and what follows from its fields.
+ghost use Rattle.std.specs.Prelude.{◌≡◌, ◌==◌, IfOk, map, filter};
+ghost use Rattle.keep_spec.specs.Config.{firsts};
+
 use crate::error::ConfigError;
 use keep_spec::{Bytes, Device, Items, Mount, NoMemory, Server, TokenId};
 use std::alloc::Global;
@@ -74,6 +77,14 @@ impl Config {
         }
     }
 
+    /// The devices of a server's mounts in order, each once. A server that isn't there has none.
+    pub fn devices_of(&self, alloc: Global, server: u32) -> Result<Vec<u32>, NoMemory>
+        ensures devices { IfOk result (λ v. v.items ≡ devices_of self.now server) }
+        ensures within { IfOk result (λ v. All (λ d. d < length self.now.devices) v.items) }
+    {
+        devices_on(alloc, self.mounts.as_slice(), server)
+    }
+
     pub fn device(&self, device: u32) -> Device
         requires { device < length self.now.devices }
         ensures { slice_get self.now.devices device ≡ Some result }
@@ -107,4 +118,18 @@ impl Config {
     {
         start.saturating_sub(self.grace_nanos())
     }
+}
+
+fn devices_on(alloc: Global, mounts: &[Mount], server: u32) -> Result<Vec<u32>, NoMemory>
+    ensures { IfOk result (λ v. v.items ≡ firsts (map (λ m. m.device) (filter (λ m. m.server == server) mounts.now))) }
+{
+    let mut devices = Vec::new(alloc);
+    for mount in mounts {
+        if mount.server == server && !devices.contains(&mount.device) {
+            if devices.push(mount.device).is_err() {
+                return Err(NoMemory);
+            }
+        }
+    }
+    Ok(devices)
 }

@@ -223,7 +223,7 @@ token_text c token = slice_index_or (c.system_token ∷ c.tokens) token.number [
 -- each of a list once, at its first place
 abbrev pub firsts : List ℕ → List ℕ
 firsts [] = []
-firsts (x ∷ xs) = x ∷ filter (λ y. not (y == x)) (firsts xs)
+firsts (x ∷ xs) = x ∷ filter (λ y. not (x == y)) (firsts xs)
 
 -- the devices of a server's mounts in order, each once
 abbrev pub devices_of : Configuration → ℕ → List ℕ
