@@ -2,6 +2,7 @@
 #![tactic(auto)]
 
 mod config;
+mod distinct;
 mod error;
 pub mod json;
 
