@@ -5,6 +5,7 @@ mod config;
 mod distinct;
 mod error;
 pub mod json;
+mod limits;
 
 pub use config::Config;
 pub use error::ConfigError;

@@ -96,7 +96,7 @@ is_trash_life n = is_within 0 100000000 n
 
 -- 1 and 2 are refused until rounds ask for pages by prefix
 abbrev pub is_index_digits : ℕ → Bool
-is_index_digits n = n == 0
+is_index_digits n = is_within 0 0 n
 
 abbrev pub is_scan_limit : ℕ → Bool
 is_scan_limit n = is_within 1 100000 n
