@@ -23,8 +23,7 @@ pub(crate) fn is_cluster(text: &[u8]) -> bool
 fn all_alphanumeric(text: &[u8]) -> bool
     ensures { result ≡ is_uuid_part text.now }
 {
-    text.iter()
-        .all(|b| (*b >= b'a' && *b <= b'z') || (*b >= b'0' && *b <= b'9'))
+    text.iter().all(|b| (*b >= b'a' && *b <= b'z') || (*b >= b'0' && *b <= b'9'))
 }
 
 pub(crate) fn is_secret(bytes: &[u8]) -> bool
@@ -128,9 +127,7 @@ pub(crate) fn are_mounts(
 fn all_mounts(devices: usize, servers: usize, mounts: &[Mount]) -> bool
     ensures { result ≡ list_all (is_mount devices servers) mounts.now }
 {
-    mounts
-        .iter()
-        .all(|mount| is_mount(devices, servers, mount))
+    mounts.iter().all(|mount| is_mount(devices, servers, mount))
 }
 
 fn is_mount(devices: usize, servers: usize, mount: &Mount) -> bool
