@@ -213,3 +213,17 @@ fn read_object(alloc: Global, value: &Value) -> Result<Config, ConfigError>
         scan_limit,
     })
 }
+
+impl Config {
+    /// Reads a configuration. The text is one JSON object; of a name that stands twice in it the last counts.
+    /// BadConfig has the first field, in the order of the struct's fields, that is missing without a default or isn't as it must be.
+    #[tactic(auto, unfolding(keep_spec::specs::Config::field, keep_spec::specs::Config::config_of))]
+    pub fn read(alloc: Global, text: &[u8]) -> Result<Config, ConfigError>
+        ensures { IsReading (config_of text.now) result }
+    {
+        match json::value_of(alloc, text)? {
+            Some(value) if value.is_object() => read_object(alloc, &value),
+            _ => Err(bad(Field::Line)),
+        }
+    }
+}
