@@ -1,6 +1,7 @@
 // What no clause says: that the fields and their bounds are the intended ones, and that configurations are read with ample memory.
-use crate::{Config, ConfigError, Field, TokenId};
+use crate::{Config, ConfigError, Device, Field, TokenId};
 use std::alloc::{AllocError, Global};
+use std::process::Abort;
 use std::test::Fail;
 
 // The fields of a small configuration; a default stands for each field that isn't here.
@@ -293,7 +294,34 @@ fn lengths_are_as_said(rt: HostRuntime) -> Result<(), Fail> {
             "{name}: {count} of {piece}"
         );
     }
-    // devices, servers, mounts and tokens
+    Ok(())
+}
+
+// So many devices, servers, mounts and tokens.
+fn large(
+    alloc: Global,
+    devices: usize,
+    servers: usize,
+    mounts: usize,
+    tokens: usize,
+) -> Result<String, AllocError> {
+    changed(
+        alloc,
+        &[
+            (
+                "devices",
+                list_of(alloc, devices, "{\"capacity\":@}")?.as_str(),
+            ),
+            ("servers", list_of(alloc, servers, SERVERS)?.as_str()),
+            ("mounts", list_of(alloc, mounts, MOUNTS)?.as_str()),
+            ("tokens", list_of(alloc, tokens, "\"token#\"")?.as_str()),
+        ],
+    )
+}
+
+#[test]
+fn lists_are_as_said(rt: HostRuntime) -> Result<(), Fail> {
+    let alloc = rt.alloc();
     let lists = [
         (64, 64, 256, 1000, None),
         (64, 64, 256, 1001, Some(Field::Tokens)),
@@ -304,21 +332,9 @@ fn lengths_are_as_said(rt: HostRuntime) -> Result<(), Fail> {
         (64, 64, 63, 1000, Some(Field::Mounts)),
         (64, 63, 256, 1000, Some(Field::Mounts)),
     ];
-    for (devices, servers, mounts, tokens, want) in lists {
-        let devices = list_of(alloc, devices, "{\"capacity\":@}")?;
-        let servers = list_of(alloc, servers, SERVERS)?;
-        let mounts = list_of(alloc, mounts, MOUNTS)?;
-        let tokens = list_of(alloc, tokens, "\"token#\"")?;
-        let text = changed(
-            alloc,
-            &[
-                ("devices", devices.as_str()),
-                ("servers", servers.as_str()),
-                ("mounts", mounts.as_str()),
-                ("tokens", tokens.as_str()),
-            ],
-        )?;
-        assert_eq!(rt; refused(alloc, text.as_bytes())?, want);
+    for (devices, servers, mounts, tokens, want) in &lists {
+        let text = large(alloc, *devices, *servers, *mounts, *tokens)?;
+        assert_eq!(rt; refused(alloc, text.as_bytes())?, *want);
     }
     Ok(())
 }
@@ -326,30 +342,36 @@ fn lengths_are_as_said(rt: HostRuntime) -> Result<(), Fail> {
 const CLUSTER: &str =
     "{\"cluster\":\"zzzzz\",\"ttl\":100,\"skew\":1,\"secret\":\"sesame\",\"system_token\":\"sys\",\"tokens\":[\"alice\",\"bob\"],\"devices\":[{\"capacity\":1000},{\"capacity\":2000,\"read_only\":true}],\"servers\":[{\"uuid\":\"zzzzz-bi6l4-000000000000000\"},{\"uuid\":\"zzzzz-bi6l4-000000000000001\",\"addresses\":[\"127.0.0.1:8080\"]}],\"mounts\":[{\"uuid\":\"zzzzz-nyw5e-000000000000000\",\"server\":1,\"device\":1},{\"uuid\":\"zzzzz-nyw5e-000000000000001\",\"server\":0,\"device\":0},{\"uuid\":\"zzzzz-nyw5e-000000000000002\",\"server\":1,\"device\":0},{\"uuid\":\"zzzzz-nyw5e-000000000000003\",\"server\":1,\"device\":1}],\"versions\":4,\"trash_life\":50}";
 
-#[test]
-fn fields_and_what_follows(rt: HostRuntime) -> Result<(), Fail> {
-    let alloc = rt.alloc();
-    let config = Config::read(alloc, CLUSTER.as_bytes())?;
+// What the configuration says.
+fn check_fields(rt: &impl Abort, config: &Config) {
     assert_eq!(rt; config.cluster.as_slice(), b"zzzzz".as_slice());
-    assert_eq!(rt; (config.ttl, config.skew, config.versions), (100, 1, 4));
-    assert_eq!(rt;
-        (config.trash_life, config.index_digits, config.scan_limit),
-        (50, 0, 1000)
-    );
     assert_eq!(rt; config.secret.as_slice(), b"sesame".as_slice());
-    assert_eq!(rt; config.devices.len(), 2);
     assert_eq!(rt;
-        (config.device(0).capacity, config.device(0).read_only),
-        (1000, false)
+        (config.ttl, config.skew, config.versions, config.trash_life),
+        (100, 1, 4, 50)
     );
-    assert_eq!(rt;
-        (config.device(1).capacity, config.device(1).read_only),
-        (2000, true)
-    );
-    assert_eq!(rt; config.servers.len(), 2);
-    assert_eq!(rt; config.servers.as_slice()[0].addresses.len(), 0);
-    assert_eq!(rt; config.servers.as_slice()[1].addresses.len(), 1);
-    // TTL and twice the skew are 102 s
+    assert_eq!(rt; (config.index_digits, config.scan_limit), (0, 1000));
+    let devices = [
+        Device {
+            capacity: 1000,
+            read_only: false,
+        },
+        Device {
+            capacity: 2000,
+            read_only: true,
+        },
+    ];
+    assert_eq!(rt; config.devices.as_slice(), devices.as_slice());
+    let addresses = config
+        .servers
+        .as_slice()
+        .iter()
+        .map(|server| server.addresses.len());
+    assert_eq!(rt; addresses.max(), Some(1));
+}
+
+// What follows from it: TTL and twice the skew are 102 seconds.
+fn check_times(rt: &impl Abort, config: &Config) {
     assert_eq!(rt;
         (config.guard_nanos(), config.grace_nanos()),
         (2_000_000_000, 102_000_000_000)
@@ -357,20 +379,41 @@ fn fields_and_what_follows(rt: HostRuntime) -> Result<(), Fail> {
     assert_eq!(rt; config.trash_life_nanos(), 50_000_000_000);
     assert_eq!(rt; config.threshold(1_102_500_000_000), 1_000_500_000_000);
     assert_eq!(rt; config.threshold(101_999_999_999), 0);
+}
 
+fn check_tokens(rt: &impl Abort, config: &Config) {
+    assert_eq!(rt; config.tokens.len(), 2);
     for (text, number) in [("sys", 0), ("alice", 1), ("bob", 2)] {
         assert_eq!(rt; config.token(text.as_bytes()), Some(TokenId { number }));
-        assert_eq!(rt; config.tokens.len(), 2);
         assert!(rt; number <= 2);
         assert_eq!(rt; config.token_text(TokenId { number }), text.as_bytes());
     }
     assert_eq!(rt; config.token(b"carol"), None);
+}
+
+#[test]
+fn fields_and_what_follows(rt: HostRuntime) -> Result<(), Fail> {
+    let alloc = rt.alloc();
+    let config = Config::read(alloc, CLUSTER.as_bytes())?;
+    check_fields(&rt, &config);
+    check_times(&rt, &config);
+    check_tokens(&rt, &config);
     assert_eq!(rt; config.devices_of(alloc, 0)?.as_slice(), [0].as_slice());
     assert_eq!(rt; config.devices_of(alloc, 1)?.as_slice(), [1, 0].as_slice());
+    Ok(())
+}
 
-    let again = Config::read(alloc, CLUSTER.as_bytes())?;
-    assert!(rt; config.same(&again));
-    let other = Config::read(alloc, changed(alloc, &[])?.as_bytes())?;
-    assert!(rt; !config.same(&other));
+// Whether the text says what the configuration is.
+fn says(alloc: Global, text: &str, config: &Config) -> Result<bool, ConfigError> {
+    Ok(Config::read(alloc, text.as_bytes())?.same(config))
+}
+
+#[test]
+fn the_same_text_reads_the_same(rt: HostRuntime) -> Result<(), Fail> {
+    let alloc = rt.alloc();
+    let other = changed(alloc, &[])?;
+    let config = Config::read(alloc, CLUSTER.as_bytes())?;
+    assert!(rt; says(alloc, CLUSTER, &config)?);
+    assert!(rt; !says(alloc, other.as_str(), &config)?);
     Ok(())
 }
