@@ -2,6 +2,7 @@
 #![tactic(auto)]
 
 mod bytes;
+mod bytes_order;
 mod digest;
 mod items;
 mod memory;
