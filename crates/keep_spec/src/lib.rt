@@ -5,8 +5,14 @@ mod bytes;
 mod digest;
 mod items;
 mod memory;
+mod permission;
+mod portable;
+mod unverified;
 
 pub use bytes::Bytes;
 pub use digest::Digest;
 pub use items::Items;
 pub use memory::NoMemory;
+pub use permission::Permission;
+pub use portable::Portable;
+pub use unverified::{Triple, Unverified};
