@@ -7,9 +7,15 @@ mod digest;
 mod items;
 mod memory;
 mod token;
+mod permission;
+mod portable;
+mod unverified;
 
 pub use bytes::Bytes;
 pub use digest::Digest;
 pub use items::Items;
 pub use memory::NoMemory;
 pub use token::TokenId;
+pub use permission::Permission;
+pub use portable::Portable;
+pub use unverified::{Triple, Unverified};
