@@ -5,3 +5,7 @@ pub mod Lines
 pub mod Locator
 pub mod Portable
 pub mod Sign
+pub mod Config
+pub mod Json
+pub mod Lines
+pub mod Uuid

@@ -3,15 +3,19 @@
 
 mod bytes;
 mod bytes_order;
+mod config;
 mod digest;
+mod equality;
 mod items;
 mod memory;
 mod token;
 mod permission;
 mod portable;
 mod unverified;
+mod uuid;
 
 pub use bytes::Bytes;
+pub use config::{Device, Field, Mount, Server};
 pub use digest::Digest;
 pub use items::Items;
 pub use memory::NoMemory;
@@ -19,3 +23,4 @@ pub use token::TokenId;
 pub use permission::Permission;
 pub use portable::Portable;
 pub use unverified::{Triple, Unverified};
+pub use uuid::{BadUuid, Uuid};
