@@ -274,10 +274,10 @@ pub pull-done : (s : State) (item : PullItem) (rest : List PullItem) → s.pull 
 unfolding machine.pull_next
 pull-done s item rest e = ap (machine.pull_first s) e
 
-pub no-items : (xs : List PullItem) → length xs ≡ 0 → xs ≡ []
+pub no-items : {A : Type 0} (xs : List A) → length xs ≡ 0 → xs ≡ []
 no-items [] e = refl
 no-items (x ∷ xs) e = absurd (omega arith)
 
-pub first-item : (xs : List PullItem) (x : PullItem) → 0 < length xs → x ≡ slice_index_or xs 0 x → xs ≡ x ∷ drop 1 xs
-first-item [] x lt e = absurd (omega arith)
-first-item (y ∷ xs) x lt e = ap (λ v. v ∷ xs) (sym e)
+pub none-first : (xs ys : List PullItem) → xs ≡ ys → ys ≡ drop 1 xs → xs ≡ []
+none-first [] ys e f = refl
+none-first (x ∷ xs) ys e f = absurd (let h : length (x ∷ xs) ≡ length xs = ap length (e ∙ f) in omega (arith, h))

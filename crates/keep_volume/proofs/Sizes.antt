@@ -10,6 +10,10 @@ use Rattle.std.proofs.Common.{take, take_all, drop, get_or}
 use Rattle.std.proofs.lemmas.List.{at_drop_more}
 use Rattle.std.proofs.lemmas.List.{length-take}
 use Rattle.keep_event.specs.Device as machine
+use Rattle.keep_event.specs.Device.{State}
+use Rattle.keep_event.specs.declared.lists.TrashItem.{TrashItem}
+use Rattle.keep_event.specs.declared.lists.PullItem.{PullItem}
+use Rattle.std.specs.Prelude.{◌↔◌}
 use Rattle.std.specs.List.{find as list_find, last_or, filter}
 use Rattle.std.specs.Prelude.{Bool, true, false, if◌then◌else◌, cond}
 use Rattle.std.specs.declared.cmp.Ordering.{Ordering}
@@ -271,3 +275,17 @@ page-sizes prefix (e ∷ es) = page-step prefix (machine.is_paged prefix e.0) e 
 pub page-told : (prefix : List ℕ) (held : Option (List (Name × Stored))) (index : List (Name × Sized)) → IfSome held (λ es. index ≡ sizes es) → IfSome held (λ es. map sized_entry (filter (λ e. machine.is_paged prefix e.0) index) ≡ map machine.entry_of (filter (λ e. machine.is_paged prefix e.0) es))
 page-told prefix None index h = tt
 page-told prefix (Some es) index h = ap (λ v. map sized_entry (filter (λ e. machine.is_paged prefix e.0) v)) h ∙ page-sizes prefix es
+
+-- ---- an empty device
+no-sizes : (es : List (Name × Stored)) → sizes es ≡ [] → es ≡ []
+no-sizes [] e = refl
+no-sizes (e ∷ es) f = cc f
+
+pub empty-told : (held : Option (List (Name × Stored))) (index : List (Name × Sized)) (round : ℕ) (trash : List TrashItem) (pull : List PullItem) (b : Bool) → IfSome held (λ es. index ≡ sizes es)
+    → (b ≡ true → (round ≡ 0) × (index ≡ []) × (trash ≡ []) × (pull ≡ [])) → (index ≡ [] → round ≡ 0 → trash ≡ [] → pull ≡ [] → b ≡ true)
+    → IfSome (option_map (λ (es : List (Name × Stored)). let s : State = record { held = es; round = round; trash = trash; pull = pull } in s) held) (λ s. (b ≡ true) ↔ (s ≡ machine.initial))
+empty-told None index round trash pull b h f t = tt
+empty-told (Some es) index round trash pull b h f t = (
+  (λ e. let p = f e in let q : es ≡ [] = no-sizes es (sym h ∙ p.1) in cc (p.0, p.2, p.3, q)),
+  (λ e. t (h ∙ ap (λ (s : State). sizes s.held) e) (ap (λ (s : State). s.round) e) (ap (λ (s : State). s.trash) e) (ap (λ (s : State). s.pull) e)),
+)

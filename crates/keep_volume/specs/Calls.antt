@@ -106,6 +106,13 @@ due reading e = is_due_at reading e.0.deadline
 abbrev pub sized_entry : Name × Sized → Entry
 sized_entry e = record { digest = e.0.digest; mtime = e.1.mtime; size = e.1.size }
 
+-- the line exactly, whatever the contents are, told or not, and without the store
+pub record IsExactly (line : State → Reply) (old new : Device) (result : Result DeviceAnswer memory.NoMemory) : Type 0 where
+  pub told : (es : List (Name × Stored)) → (result ≡ Ok (line (state_with old es)).answer) × (state_with new es ≡ (line (state_with old es)).state)
+  pub held : new.held ≡ old.held
+  pub faults : new.faults ≡ old.faults
+  pub rules : new.rules ≡ old.rules
+
 -- a line that doesn't read the contents: the same whatever they are, told or not
 abbrev pub IsLineAnyway : (State → Reply) → Device → Device → Result DeviceAnswer memory.NoMemory → Type 0
 IsLineAnyway line old new result = (es : List (Name × Stored)) → IsToldLine line (state_with old es) (Some (state_with new es)) result

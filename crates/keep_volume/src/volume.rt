@@ -1,22 +1,24 @@
 // A device over a store.
-ghost use Rattle.std.specs.Prelude.{◌≡◌, IfOk, IsOk, IfSome, Some, None, option_map, max, map, sum_by, IfErr, ◌+◌, ◌<◌, ◌^◌, slice_get};
+ghost use Rattle.std.specs.Prelude.{◌≡◌, ◌↔◌, ◌≤◌, IsTrue, option_copied, [], true, IfOk, IsOk, IfSome, Some, None, option_map, max, map, sum_by, IfErr, ◌+◌, ◌<◌, ◌^◌, slice_get};
 ghost use Rattle.md5.specs.Md5.{md5};
 ghost use Rattle.hex.specs.Hex.{encode_lower};
 ghost use Rattle.keep_event.specs.Device as machine;
 ghost use Rattle.keep_event.specs.Store as store;
 ghost use Rattle.keep_event.specs.Store.{find, size_of, sized};
 ghost use Rattle.std.specs.List.{find as list_find, last_or, filter};
-ghost use Rattle.keep_volume.specs.Calls.{IsLine, IsLineAnyway, IsStoreCall, IsItem, Device, over, without_first, size_at, due, sized_entry, sized_held, IsOpened, IsGivenBack};
+ghost use Rattle.keep_volume.specs.Calls.{IsLine, IsLineAnyway, IsExactly, state_of, IsStoreCall, IsItem, Device, over, without_first, size_at, due, sized_entry, sized_held, IsOpened, IsGivenBack};
 ghost use Rattle.keep_store.specs.Causes.{HasStoreCause};
 
 use hex::encode_to_slice;
 use keep_event::{
-    Block, DeviceAnswer, DeviceRules, Entry, Held, Lists, Name, PullItem, Sized, Stored, TrashItem,
+    Block, DeviceAnswer, DeviceQuery, DeviceRules, Entry, Held, Lists, Name, PullItem, Sized,
+    Stored, TrashItem,
 };
-use keep_spec::{Digest, Items, NoMemory};
+use keep_spec::{Digest, Items, NoMemory, TokenId};
 use keep_store::{Failed, Store, StoreError, move_to, put_in_room, replace, take_out, value_of};
 use md5::Md5;
 use std::alloc::Global;
+use std::collections::VecDeque;
 use std::marker::Model;
 
 /// Why a volume was not opened, with its store.
@@ -34,7 +36,7 @@ pub struct Volume<S: Store> {
     round: u64,
     trash: Vec<TrashItem>,
     trash_done: usize,
-    pull: Vec<PullItem>,
+    pull: VecDeque<PullItem>,
     rules: DeviceRules,
     alloc: Global,
 }
@@ -47,7 +49,7 @@ impl<S: Store> Model for Volume<S> {
 
     ghost view = { λ v. record { held = S.held v.store; round = v.round; trash = drop v.trash_done v.trash.items; pull = v.pull.items; rules = v.rules; faults = S.faults v.store } };
 
-    ghost invariant = { λ v. Remembers (S.held v.store) v.index.items v.used × (v.trash_done ≤ length v.trash.items) × IfSome (S.noted v.store) (λ n. n ≡ v.round) };
+    ghost invariant = { λ v. record { remembers : Remembers (S.held v.store) v.index.items v.used; done : v.trash_done ≤ length v.trash.items; noted : IfSome (S.noted v.store) (λ n. n ≡ v.round); life : v.rules.trash_life ≤ 100000000000000000 } };
 }
 
 fn replica(digest: Digest) -> Name
@@ -62,6 +64,7 @@ fn replica(digest: Digest) -> Name
 impl<S: Store> Volume<S> {
     /// Opens a device over its store.
     pub fn open(alloc: Global, store: S, rules: DeviceRules) -> Result<Volume<S>, OpenError<S>>
+        requires { rules.trash_life ≤ 100000000000000000 }
         ensures opened { IfOk result (λ v. IsOpened (S.held store) (S.noted store) rules v) }
         ensures given_back { IfErr result (IsGivenBack (S.held store) (S.noted store) (S.faults store) S.held S.noted S.faults) }
     {
@@ -84,7 +87,7 @@ impl<S: Store> Volume<S> {
             round,
             trash: Vec::new(alloc),
             trash_done: 0,
-            pull: Vec::new(alloc),
+            pull: VecDeque::new(alloc),
             rules,
             alloc,
         })
@@ -141,7 +144,12 @@ impl<S: Store> Volume<S> {
         value_of(&self.index, name)
     }
 
-    pub fn touch(&mut self, reading: u64, digest: &Digest) -> Result<DeviceAnswer, NoMemory>
+    pub fn touch(
+        &mut self,
+        reading: u64,
+        digest: &Digest,
+        _token: Option<TokenId>,
+    ) -> Result<DeviceAnswer, NoMemory>
         ensures line { IsLine (machine.touch self.old.rules digest.now reading) self.old self.new result }
         ensures sure { IsOk result }
     {
@@ -159,7 +167,7 @@ impl<S: Store> Volume<S> {
         }
     }
 
-    pub fn clear(&mut self, round: u64) -> Result<DeviceAnswer, NoMemory>
+    pub fn clear(&mut self, _reading: u64, round: u64) -> Result<DeviceAnswer, NoMemory>
         ensures line { IsLine (machine.clear round) self.old self.new result }
         ensures anyway { IsLineAnyway (machine.clear round) self.old self.new result }
         ensures sure { IsOk result }
@@ -177,8 +185,10 @@ impl<S: Store> Volume<S> {
         Ok(DeviceAnswer::Cleared)
     }
 
-    pub fn restart(&mut self) -> Result<DeviceAnswer, NoMemory>
+    pub fn restart(&mut self, _reading: u64) -> Result<DeviceAnswer, NoMemory>
         ensures line { IsLine machine.restart self.old self.new result }
+        ensures exact { IsExactly machine.restart self.old self.new result }
+        ensures no_fault { result ≡ Ok DeviceAnswer.StoreFault → ⊥ }
         ensures sure { IsOk result }
     {
         self.trash.clear();
@@ -223,7 +233,12 @@ impl<S: Store> Volume<S> {
         }
     }
 
-    pub fn page(&mut self, round: u64, prefix: &[u8]) -> Result<DeviceAnswer, NoMemory>
+    pub fn page(
+        &mut self,
+        _reading: u64,
+        round: u64,
+        prefix: &[u8],
+    ) -> Result<DeviceAnswer, NoMemory>
         ensures { IsLine (machine.page prefix.now round) self.old self.new result }
     {
         if round != self.round {
@@ -237,19 +252,34 @@ impl<S: Store> Volume<S> {
         })
     }
 
-    pub fn pull_next(&mut self) -> Result<DeviceAnswer, NoMemory>
+    /// The first item of the pull list.
+    pub fn next_pull(&self) -> Option<&PullItem>
+        ensures { option_copied result ≡ slice_get self.now.pull 0 }
+    {
+        self.pull.front()
+    }
+
+    pub fn pull_next(&mut self, _reading: u64) -> Result<DeviceAnswer, NoMemory>
         ensures line { IsLine machine.pull_next self.old self.new result }
+        ensures exact { IsExactly machine.pull_next self.old self.new result }
+        ensures no_fault { result ≡ Ok DeviceAnswer.StoreFault → ⊥ }
         ensures sure { IsOk result }
     {
-        if self.pull.is_empty() {
+        let Some(item) = self.pull.pop_front() else {
             return Ok(DeviceAnswer::Idle);
-        }
-        let item = self.pull.remove(0);
+        };
         Ok(DeviceAnswer::Pull { item })
     }
 
-    pub fn accept(&mut self, round: u64, lists: Lists) -> Result<DeviceAnswer, NoMemory>
+    pub fn accept(
+        &mut self,
+        _reading: u64,
+        round: u64,
+        lists: Lists,
+    ) -> Result<DeviceAnswer, NoMemory>
         ensures line { IsLine (machine.accept round lists) self.old self.new result }
+        ensures exact { IsExactly (machine.accept round lists) self.old self.new result }
+        ensures no_fault { result ≡ Ok DeviceAnswer.StoreFault → ⊥ }
         ensures sure { IsOk result }
     {
         if round != self.round {
@@ -259,7 +289,7 @@ impl<S: Store> Volume<S> {
         let pull = lists.pull.len() as u64;
         self.trash = lists.trash.into_vec();
         self.trash_done = 0;
-        self.pull = lists.pull.into_vec();
+        self.pull = VecDeque::from(lists.pull.into_vec());
         Ok(DeviceAnswer::Accepted { trash, pull })
     }
 
@@ -318,7 +348,12 @@ impl<S: Store> Volume<S> {
         Ok(DeviceAnswer::Written { mtime })
     }
 
-    pub fn write(&mut self, reading: u64, block: &Block) -> Result<DeviceAnswer, NoMemory>
+    pub fn write(
+        &mut self,
+        reading: u64,
+        block: &Block,
+        _token: Option<TokenId>,
+    ) -> Result<DeviceAnswer, NoMemory>
         ensures { IsLine (machine.write self.old.rules block.now reading) self.old self.new result }
     {
         if self.rules.read_only {
@@ -373,7 +408,7 @@ impl<S: Store> Volume<S> {
 
     // What the first item of the trash list asks for, with the list as it is.
     fn trash_item(&mut self, reading: u64, item: TrashItem) -> Result<DeviceAnswer, Failed>
-        requires { reading + self.old.rules.trash_life < 2 ^ 64 }
+        requires { reading < 4000000000000000000 }
         ensures { IsItem (machine.trash_item self.old.rules item reading) self.old self.new result }
     {
         if self.rules.read_only {
@@ -406,7 +441,7 @@ impl<S: Store> Volume<S> {
     }
 
     pub fn trash_next(&mut self, reading: u64) -> Result<DeviceAnswer, NoMemory>
-        requires { reading + self.old.rules.trash_life < 2 ^ 64 }
+        requires { reading < 4000000000000000000 }
         ensures line { IsLine (machine.trash_next self.old.rules reading) self.old self.new result }
         ensures sure { IsOk result }
     {
@@ -428,7 +463,12 @@ impl<S: Store> Volume<S> {
         self.trash.get(self.trash_done).copied()
     }
 
-    pub fn compare_touch(&mut self, reading: u64, block: &Block) -> Result<DeviceAnswer, NoMemory>
+    pub fn compare_touch(
+        &mut self,
+        reading: u64,
+        block: &Block,
+        _token: Option<TokenId>,
+    ) -> Result<DeviceAnswer, NoMemory>
         ensures { IsLine (machine.compare_touch self.old.rules block.now reading) self.old self.new result }
     {
         if self.rules.read_only {
@@ -451,7 +491,7 @@ impl<S: Store> Volume<S> {
         }
     }
 
-    pub fn fetch(&mut self, digest: &Digest) -> Result<DeviceAnswer, NoMemory>
+    pub fn fetch(&mut self, _reading: u64, digest: &Digest) -> Result<DeviceAnswer, NoMemory>
         ensures { IsLine (machine.fetch digest.now) self.old self.new result }
     {
         let name = replica(*digest);
@@ -468,6 +508,58 @@ impl<S: Store> Volume<S> {
         Ok(DeviceAnswer::Block {
             bytes: stored.bytes,
         })
+    }
+
+    /// Whether nothing is kept: no replica, no trashed copy, empty lists, and no round yet.
+    pub fn is_empty(&self) -> bool
+        ensures told { IfSome (state_of self.now) (λ s. IsTrue result ↔ (s ≡ machine.initial)) }
+        ensures lists { IsTrue result → (self.now.round ≡ 0) × (self.now.trash ≡ []) × (self.now.pull ≡ []) }
+    {
+        if self.round != 0 || !self.index.is_empty() {
+            return false;
+        }
+        if self.trash_done < self.trash.len() {
+            return false;
+        }
+        self.pull.is_empty()
+    }
+
+    /// Does the call that the query names.
+    pub fn step(&mut self, reading: u64, query: &DeviceQuery) -> Result<DeviceAnswer, NoMemory>
+        requires { reading < 4000000000000000000 }
+        ensures line { IsLine (machine.step self.old.rules reading query.now) self.old self.new result }
+        ensures may_fault { result ≡ Ok DeviceAnswer.StoreFault → machine.may_fault query.now ≡ true }
+    {
+        match query {
+            DeviceQuery::CompareTouch { block, token } => {
+                self.compare_touch(reading, block, *token)
+            }
+            DeviceQuery::Write { block, token } => self.write(reading, block, *token),
+            DeviceQuery::Fetch { digest } => self.fetch(reading, digest),
+            DeviceQuery::Touch { digest, token } => self.touch(reading, digest, *token),
+            DeviceQuery::Clear { round } => self.clear(reading, *round),
+            DeviceQuery::Accept { round, lists } => self.accept_copy(reading, *round, lists),
+            DeviceQuery::Page { round, prefix } => self.page(reading, *round, prefix.as_slice()),
+            DeviceQuery::TrashNext => self.trash_next(reading),
+            DeviceQuery::PullNext => self.pull_next(reading),
+            DeviceQuery::Untrash { digest } => self.untrash(reading, digest),
+            DeviceQuery::EmptyNext => self.empty_next(reading),
+            DeviceQuery::Restart => self.restart(reading),
+        }
+    }
+
+    // Accepts a copy of the lists.
+    fn accept_copy(
+        &mut self,
+        reading: u64,
+        round: u64,
+        lists: &Lists,
+    ) -> Result<DeviceAnswer, NoMemory>
+        ensures line { IsLine (machine.accept round lists.now) self.old self.new result }
+        ensures no_fault { result ≡ Ok DeviceAnswer.StoreFault → ⊥ }
+    {
+        let copy = lists.copied(self.alloc)?;
+        self.accept(reading, round, copy)
     }
 }
 

@@ -10,4 +10,4 @@ returns-then-round-self g c = rw (← c.self.view_is) (stays-line _ _ (Stale c.s
 
 pub returns : goal.returns
 returns g c = rw (← c.self.view_is, c.of.ensures, c.in-Ok.ensures, c.deref.ensures.value)
-    (stays-line _ _ (Page _) (told-map (g.S.Store.held c.self.inside.store) (λ es k. page-done c.args.prefix.now c.args.round _ (search rules) _ k) (page-told c.args.prefix.now (g.S.Store.held c.self.inside.store) c.self.inside.index.items c.self.invariant.0.names)) (λ e. cc e))
+    (stays-line _ _ (Page _) (told-map (g.S.Store.held c.self.inside.store) (λ es k. page-done c.args.prefix.now c.args.round _ (search rules) _ k) (page-told c.args.prefix.now (g.S.Store.held c.self.inside.store) c.self.inside.index.items c.self.invariant.remembers.names)) (λ e. cc e))
