@@ -1,4 +1,10 @@
-//! Reading the configuration, and small readers of JSON that the reading of script lines uses too.
+//! The configuration: its reading, and what follows from its fields. Beside it small readers of JSON that the reading of script lines uses too.
 #![tactic(auto)]
 
+mod config;
+mod error;
 pub mod json;
+
+pub use config::Config;
+pub use error::ConfigError;
+pub use keep_spec::{BadUuid, Device, Field, Mount, Server, TokenId, Uuid};

@@ -1,6 +1,6 @@
 -- The configuration: what each field must be, and what a text says. This is the project's own format.
-use Rattle.std.specs.Prelude.{ℕ, zero, suc, ◌^◌, ◌==◌, ◌&&◌, nat_le, nat_lt, List, [], ◌∷◌, length, map, Bool, true, not, IsTrue, Option, None, Some, is_some, bytes_eq, ok_or, option_and_then, option_map, Result, Ok, Err, if◌then◌else◌, codes}
-use Rattle.std.specs.List.{list_all, list_any}
+use Rattle.std.specs.Prelude.{ℕ, zero, suc, ◌+◌, ◌-◌, ◌*◌, ◌^◌, ◌==◌, ◌&&◌, nat_le, nat_lt, List, [], ◌∷◌, length, map, filter, slice_index_or, Bool, true, not, IsTrue, Option, None, Some, is_some, bytes_eq, ok_or, option_and_then, option_map, Result, Ok, Err, if◌then◌else◌, codes}
+use Rattle.std.specs.List.{list_all, list_any, position_from}
 use Rattle.serde_json.specs.Data.{Data}
 use Rattle.serde_json.specs.Find.{get, as_str, as_object}
 use Rattle.keep_spec.specs.Json.{value_of, text_at, number_at, truth_or, list_at, option_filter, has_only, each_has_only}
@@ -8,6 +8,7 @@ use Rattle.keep_spec.specs.Uuid.{is_uuid, is_uuid_part, uuid_kind}
 use Rattle.keep_spec.specs.declared.config.Device.{Device}
 use Rattle.keep_spec.specs.declared.config.Server.{Server}
 use Rattle.keep_spec.specs.declared.config.Mount.{Mount}
+use Rattle.keep_spec.specs.declared.token.TokenId.{TokenId}
 use Rattle.keep_spec.specs.declared.config.Field.{Field}
 use Rattle.keep_spec.specs.declared.config.Field.TheVariants.{Line, Cluster, Ttl, Skew, Secret, SystemToken, Tokens, Devices, Servers, Mounts, Versions, TrashLife, IndexDigits, ScanLimit, Unknown}
 
@@ -208,3 +209,37 @@ unfoldable pub config_of : List ℕ → Result Configuration Field
 config_of text = do
   d ← field Line is_object (value_of text)
   config_of_object d
+
+-- ---- what follows from a configuration
+
+-- the number of a token: 0 is the system token, 1 and up are the others in order
+abbrev pub token_of : Configuration → List ℕ → Option TokenId
+token_of c text =
+    option_map (λ n. record { number = n }) (position_from (bytes_eq text) 0 (c.system_token ∷ c.tokens))
+
+abbrev pub token_text : Configuration → TokenId → List ℕ
+token_text c token = slice_index_or (c.system_token ∷ c.tokens) token.number []
+
+-- each of a list once, at its first place
+abbrev pub firsts : List ℕ → List ℕ
+firsts [] = []
+firsts (x ∷ xs) = x ∷ filter (λ y. not (x == y)) (firsts xs)
+
+-- the devices of a server's mounts in order, each once
+abbrev pub devices_of : Configuration → ℕ → List ℕ
+devices_of c server = firsts (map (λ m. m.device) (filter (λ m. m.server == server) c.mounts))
+
+-- twice the skew, in nanoseconds: by so much may two readings of a steady history be out of order
+abbrev pub guard : Configuration → ℕ
+guard c = 2 * c.skew * 10 ^ 9
+
+-- how long a block must be kept after the reading at which it was signed: the lifetime of a signature and the guard, in nanoseconds
+abbrev pub grace : Configuration → ℕ
+grace c = c.ttl * 10 ^ 9 + guard c
+
+abbrev pub trash_life_nanos : Configuration → ℕ
+trash_life_nanos c = c.trash_life * 10 ^ 9
+
+-- a round that starts at a reading may trash what is older than this
+abbrev pub threshold : Configuration → ℕ → ℕ
+threshold c start = start - grace c
