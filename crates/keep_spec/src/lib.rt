@@ -5,14 +5,16 @@ mod bytes;
 mod digest;
 mod items;
 mod memory;
+mod number;
 mod permission;
 mod portable;
 mod unverified;
 
 pub use bytes::Bytes;
-pub use digest::Digest;
+pub use digest::{DIGEST_DIGITS, Digest, digest_front, is_lower_digit};
 pub use items::Items;
 pub use memory::NoMemory;
+pub use number::{NUMBER_DIGITS, NumberFront, number_front, read_number};
 pub use permission::Permission;
-pub use portable::Portable;
+pub use portable::{PORTABLE_MAX, Portable};
 pub use unverified::{Triple, Unverified};
