@@ -1,5 +1,5 @@
-pub mod Mounted
 pub mod DigestText
 pub mod Fronts
+pub mod Mounted
 pub mod NumberText
 pub mod PortableText

@@ -1,25 +1,10 @@
-// Bytes are compared as lists of numbers, so that they can be keys of a map.
-ghost use Rattle.std.specs.Prelude.{◌≡◌, Some, refl, bytes_eq};
+// The order of bytes is that of lists of numbers, so that they can be keys of a map.
+ghost use Rattle.std.specs.Prelude.{◌≡◌, Some, refl};
 ghost use Rattle.std.specs.Ordering.{nat_cmp};
-ghost use Rattle.std.specs.Cmp.{partial_equiv_from_equiv};
-ghost use Rattle.std.specs.Cmp.Lexicographic.{slice_cmp, nat_list_eq_equiv, nat_list_cmp_total, texts_ties, texts_po};
+ghost use Rattle.std.specs.Cmp.Lexicographic.{slice_cmp, nat_list_cmp_total, texts_ties, texts_po};
 
 use crate::Bytes;
 use std::cmp::Ordering;
-
-impl PartialEq for Bytes {
-    ghost eq = { bytes_eq };
-
-    ghost laws = { partial_equiv_from_equiv nat_list_eq_equiv };
-
-    fn eq(&self, other: &Bytes) -> bool {
-        self.as_slice() == other.as_slice()
-    }
-}
-
-impl Eq for Bytes {
-    ghost laws = { nat_list_eq_equiv };
-}
 
 impl PartialOrd for Bytes {
     ghost partial_cmp = { λ a b. Some (slice_cmp nat_cmp a b) };
