@@ -155,4 +155,4 @@ no_effect scene = record { made = []; scene = scene; text = [] }
 -- what a line does, or None where it is no script line in this scene; an empty line does nothing
 abbrev pub effect_of_line : Configuration → List ℕ → Scene → List ℕ → Option Effect
 effect_of_line c failed scene [] = Some (no_effect scene)
-effect_of_line c failed scene (x ∷ xs) = option_and_then (effect_of_command c failed scene) (command_of c scene.names (x ∷ xs))
+effect_of_line c failed scene (x ∷ xs) = option_and_then (effect_of_command c failed scene) (command_of scene.names (x ∷ xs))

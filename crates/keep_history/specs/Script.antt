@@ -9,7 +9,6 @@ use Rattle.serde_json.specs.Data.{Data}
 use Rattle.serde_json.specs.Find.{get, as_str}
 use Rattle.keep_spec.specs.Digest.{is_digest, bytes_of_digits}
 use Rattle.keep_spec.specs.Json.{value_of, text_at, number_at, has_members}
-use Rattle.keep_spec.specs.Config.{Configuration}
 use Rattle.keep_event.specs.declared.task.Command.{Command}
 use Rattle.keep_event.specs.declared.task.Command.TheVariants as C
 use Rattle.keep_event.specs.declared.task.Opening.{Opening}
@@ -126,5 +125,5 @@ abbrev pub command_of_data : Names → Data → Option Command
 command_of_data names d = if is_some (get (codes "open") d) then opens names d else finishes names d
 
 -- the command of a line, or None where it is no script line beside these names
-unfoldable pub command_of : Configuration → Names → List ℕ → Option Command
-command_of c names text = option_and_then (command_of_data names) (value_of text)
+unfoldable pub command_of : Names → List ℕ → Option Command
+command_of names text = option_and_then (command_of_data names) (value_of text)

@@ -1,0 +1,39 @@
+// Bytes as hexadecimal digits in lower case.
+ghost use Rattle.std.specs.Prelude.{◌≡◌, ◌++◌, IfOk, OnOk};
+ghost use Rattle.std.specs.List.{list_all};
+ghost use Rattle.hex.specs.Hex.{encode_lower};
+ghost use Rattle.keep_spec.specs.Digest.{is_lower_digit};
+ghost use Rattle.keep_history.specs.Script.{bytes_of_text};
+
+use hex::FromHexError;
+use keep_spec::{Bytes, NoMemory, is_lower_digit};
+use std::alloc::Global;
+
+/// The bytes of lower-case digits, None where the text isn't pairs of them.
+pub(crate) fn bytes_of_text(alloc: Global, digits: &[u8]) -> Result<Option<Bytes>, NoMemory>
+    ensures { IfOk result (λ o. o ≡ bytes_of_text digits.now) }
+{
+    if !are_lower_digits(digits) {
+        return Ok(None);
+    }
+    match hex::decode(alloc, digits) {
+        Ok(bytes) => Ok(Some(Bytes::of(bytes))),
+        Err(FromHexError::OutOfMemory) => Err(NoMemory),
+        Err(_) => Ok(None),
+    }
+}
+
+fn are_lower_digits(digits: &[u8]) -> bool
+    ensures { result ≡ list_all is_lower_digit digits.now }
+{
+    digits.iter().all(|digit| is_lower_digit(*digit))
+}
+
+/// Writes the digits of bytes behind `out`.
+pub(crate) fn push_digits(alloc: Global, out: &mut Vec<u8>, bytes: &[u8]) -> Result<(), NoMemory>
+    ensures { OnOk result (out.new.items ≡ out.old.items ++ encode_lower bytes.now) }
+{
+    let digits = hex::encode(alloc, bytes)?;
+    out.extend_from_slice(digits.as_bytes())?;
+    Ok(())
+}
