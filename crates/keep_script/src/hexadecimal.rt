@@ -1,11 +1,11 @@
 // Bytes as hexadecimal digits in lower case.
-ghost use Rattle.std.specs.Prelude.{◌≡◌, ◌++◌, IfOk, OnOk};
+ghost use Rattle.std.specs.Prelude.{◌≡◌, ◌≤◌, ◌++◌, length, IfOk, OnOk};
 ghost use Rattle.std.specs.List.{list_all};
 ghost use Rattle.hex.specs.Hex.{encode_lower};
 ghost use Rattle.keep_spec.specs.Digest.{is_lower_digit};
 ghost use Rattle.keep_history.specs.Script.{bytes_of_text};
 
-use hex::FromHexError;
+use hex::{FromHexError, encode_to_slice};
 use keep_spec::{Bytes, NoMemory, is_lower_digit};
 use std::alloc::Global;
 
@@ -29,11 +29,27 @@ fn are_lower_digits(digits: &[u8]) -> bool
     digits.iter().all(|digit| is_lower_digit(*digit))
 }
 
+/// How many bytes are written as digits at a time.
+const PIECE: usize = 512;
+
 /// Writes the digits of bytes behind `out`.
-pub(crate) fn push_digits(alloc: Global, out: &mut Vec<u8>, bytes: &[u8]) -> Result<(), NoMemory>
+pub(crate) fn push_digits(out: &mut Vec<u8>, bytes: &[u8]) -> Result<(), NoMemory>
     ensures { OnOk result (out.new.items ≡ out.old.items ++ encode_lower bytes.now) }
 {
-    let digits = hex::encode(alloc, bytes)?;
-    out.extend_from_slice(digits.as_bytes())?;
+    out.reserve(bytes.len().saturating_mul(2))?;
+    for piece in bytes.chunks(PIECE) {
+        push_piece(out, piece)?;
+    }
+    Ok(())
+}
+
+fn push_piece(out: &mut Vec<u8>, piece: &[u8]) -> Result<(), NoMemory>
+    requires { length piece.now ≤ PIECE }
+    ensures { OnOk result (out.new.items ≡ out.old.items ++ encode_lower piece.now) }
+{
+    let mut digits = [0; 2 * PIECE];
+    let room = &mut digits[..2 * piece.len()];
+    let _ = encode_to_slice(piece, room);
+    out.extend_from_slice(room)?;
     Ok(())
 }

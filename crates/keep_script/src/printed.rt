@@ -41,7 +41,7 @@ pub fn push_end_line(
 {
     out.extend_from_slice(name)?;
     out.extend_from_slice(b" = ")?;
-    push_outcome(alloc, out, outcome)?;
+    push_outcome(out, outcome)?;
     out.extend_from_slice(b"\n")?;
     Ok(())
 }
@@ -83,12 +83,12 @@ fn push_answer(out: &mut Vec<u8>, answer: &DeviceAnswer) -> Result<(), NoMemory>
     }
 }
 
-fn push_outcome(alloc: Global, out: &mut Vec<u8>, outcome: &Outcome) -> Result<(), NoMemory>
+fn push_outcome(out: &mut Vec<u8>, outcome: &Outcome) -> Result<(), NoMemory>
     ensures { OnOk result (out.new.items ≡ out.old.items ++ outcome_words outcome.now) }
 {
     match outcome {
         Outcome::Stored { locator } => push_text(out, b"Stored ", locator.as_slice()),
-        Outcome::Bytes { bytes } => push_bytes(alloc, out, bytes.as_slice()),
+        Outcome::Bytes { bytes } => push_bytes(out, bytes.as_slice()),
         Outcome::UnknownToken => push_word(out, b"UnknownToken"),
         Outcome::TooLong => push_word(out, b"TooLong"),
         Outcome::HashMismatch { computed } => push_digest(out, b"HashMismatch", computed),
@@ -167,12 +167,12 @@ fn push_accepted(out: &mut Vec<u8>, trash: u64, pull: u64) -> Result<(), NoMemor
 }
 
 // The word and the bytes, no bytes being the word alone.
-fn push_bytes(alloc: Global, out: &mut Vec<u8>, bytes: &[u8]) -> Result<(), NoMemory>
+fn push_bytes(out: &mut Vec<u8>, bytes: &[u8]) -> Result<(), NoMemory>
     ensures { OnOk result (out.new.items ≡ out.old.items ++ outcome_words (Outcome.Bytes bytes.now)) }
 {
     if bytes.is_empty() {
         return push_word(out, b"Bytes");
     }
     push_word(out, b"Bytes ")?;
-    push_digits(alloc, out, bytes)
+    push_digits(out, bytes)
 }
