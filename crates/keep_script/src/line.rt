@@ -1,23 +1,17 @@
 // The command of a line.
 ghost use Rattle.std.specs.Prelude.{◌≡◌, IfOk};
-ghost use Rattle.std.specs.List.{list_all};
 ghost use Rattle.serde_json.specs.View.{view};
-ghost use Rattle.keep_history.specs.Script.{command_of, command_of_data, finishes, is_name_character, is_open, is_task_name, name_at, opens, reading_at};
+ghost use Rattle.keep_history.specs.Script.{command_of, command_of_data, finishes, is_open, opens};
 ghost use Rattle.keep_history.specs.Names.{state_of_name};
 
+use crate::fields::{name_at, reading_at};
 use crate::opening::opening_of_kind;
-use keep_config::json::{has_members, number_at, text_at, value_of};
+use keep_config::json::{has_members, text_at, value_of};
 use keep_event::{Command, TaskState};
 use keep_spec::{Bytes, NoMemory};
 use serde_json::Value;
 use std::alloc::Global;
 use std::collections::BTreeMap;
-
-/// The longest name of a task, in bytes.
-const NAME_MAX: usize = 64;
-
-/// The first reading, in nanoseconds since 1970, that no line may have.
-const READING_END: u64 = 4_000_000_000_000_000_000;
 
 /// Reads one script line, without its line break, beside the names that earlier lines opened. None where it is no line of a script there.
 #[tactic(auto, unfolding(keep_history::specs::Script::command_of))]
@@ -103,43 +97,5 @@ fn is_open(names: &BTreeMap<Bytes, TaskState>, name: &Bytes) -> bool
     match names.get(name) {
         Some(TaskState::Open { .. }) => true,
         _ => false,
-    }
-}
-
-fn name_at(alloc: Global, value: &Value, field: &str) -> Result<Option<Bytes>, NoMemory>
-    ensures { IfOk result (λ o. o ≡ name_at field.now (view value.now)) }
-{
-    match text_at(value, field) {
-        Some(text) if is_task_name(text.as_bytes()) => {
-            Ok(Some(Bytes::of(Vec::from_slice(alloc, text.as_bytes())?)))
-        }
-        _ => Ok(None),
-    }
-}
-
-fn is_task_name(text: &[u8]) -> bool
-    ensures { result ≡ is_task_name text.now }
-{
-    1 <= text.len() && text.len() <= NAME_MAX && are_name_characters(text)
-}
-
-fn are_name_characters(text: &[u8]) -> bool
-    ensures { result ≡ list_all is_name_character text.now }
-{
-    text.iter().all(|byte| is_name_character(*byte))
-}
-
-fn is_name_character(byte: u8) -> bool
-    ensures { result ≡ is_name_character byte }
-{
-    byte.is_ascii_alphanumeric() || byte == b'_' || byte == b'-'
-}
-
-fn reading_at(value: &Value) -> Option<u64>
-    ensures { result ≡ reading_at (view value.now) }
-{
-    match number_at(value, "at") {
-        Some(reading) if reading < READING_END => Some(reading),
-        _ => None,
     }
 }

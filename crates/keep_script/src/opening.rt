@@ -2,11 +2,12 @@
 ghost use Rattle.std.specs.Prelude.{◌≡◌, ◌<◌, ◌^◌, IfOk, Option, None, Some, option_map, option_copied};
 ghost use Rattle.serde_json.specs.View.{view};
 ghost use Rattle.serde_json.specs.Find.{get};
-ghost use Rattle.keep_history.specs.Script.{digest_of_data, get_of_data, locator_of_data, locator_of_reference, members_with, opening_of_kind, put_of_data, server_at, stored_locator};
+ghost use Rattle.keep_history.specs.Script.{digest_of_data, get_of_data, locator_of_data, locator_of_reference, members_with, opening_of_kind, put_of_data, stored_locator};
 ghost use Rattle.keep_history.specs.Names.{state_of_name};
 
+use crate::fields::{copied, server_at};
 use crate::hexadecimal::bytes_of_text;
-use keep_config::json::{has_members, number_at, text_at};
+use keep_config::json::{has_members, text_at};
 use keep_event::{Opening, TaskState};
 use keep_spec::{Bytes, Digest, NoMemory};
 use serde_json::Value;
@@ -86,21 +87,6 @@ fn get_of_value(
         server,
         locator,
     }))
-}
-
-fn copied(alloc: Global, text: &str) -> Result<Bytes, NoMemory>
-    ensures { IfOk result (λ b. b ≡ text.now) }
-{
-    Ok(Bytes::of(Vec::from_slice(alloc, text.as_bytes())?))
-}
-
-fn server_at(value: &Value) -> Option<u32>
-    ensures { result ≡ server_at (view value.now) }
-{
-    match number_at(value, "server") {
-        Some(0) => Some(0),
-        _ => None,
-    }
 }
 
 // None where a digest is given that is none.
