@@ -27,23 +27,23 @@ unseen-again : (seen : List ℕ) (x : ℕ) (xs : List ℕ) → is_seen seen x �
 unseen-again seen x xs e =
     ap (λ b. cond (not b) (x ∷ filter (λ y. not (is_seen seen y)) (filter (λ y. not (x == y)) (firsts xs))) (filter (λ y. not (is_seen seen y)) (filter (λ y. not (x == y)) (firsts xs)))) e
     ∙ filter-filter (λ y. not (is_seen seen y)) (λ y. not (x == y)) (λ y. not (is_seen seen y)) same (firsts xs)
-    where
-      same : (y : ℕ) → not (is_seen seen y) ≡ (not (x == y) && not (is_seen seen y))
-      same y = elim (cases_Bool (x == y)) as (λ _. not (is_seen seen y) ≡ (not (x == y) && not (is_seen seen y))) [ inl k ↦ rw (k, ← eqb-true x y k, e) refl | inr k ↦ rw k refl ]
+  where
+    same : (y : ℕ) → not (is_seen seen y) ≡ (not (x == y) && not (is_seen seen y))
+    same y = elim (cases_Bool (x == y)) as (λ _. not (is_seen seen y) ≡ (not (x == y) && not (is_seen seen y))) [ inl k ↦ rw (k, ← eqb-true x y k, e) refl | inr k ↦ rw k refl ]
 
 unseen-new : (seen : List ℕ) (x : ℕ) (xs : List ℕ) → is_seen seen x ≡ false → unseen seen (x ∷ xs) ≡ x ∷ unseen (seen ++ x ∷ []) xs
 unseen-new seen x xs e =
     ap (λ b. cond (not b) (x ∷ filter (λ y. not (is_seen seen y)) (filter (λ y. not (x == y)) (firsts xs))) (filter (λ y. not (is_seen seen y)) (filter (λ y. not (x == y)) (firsts xs)))) e
     ∙ ap (λ ys. x ∷ ys) (filter-filter (λ y. not (is_seen seen y)) (λ y. not (x == y)) (λ y. not (is_seen (seen ++ x ∷ []) y)) same (firsts xs))
-    where
-      both : (a b : Bool) → not (a || (b || false)) ≡ (not b && not a)
-      both true true = refl
-      both true false = refl
-      both false true = refl
-      both false false = refl
+  where
+    both : (a b : Bool) → not (a || (b || false)) ≡ (not b && not a)
+    both true true = refl
+    both true false = refl
+    both false true = refl
+    both false false = refl
 
-      same : (y : ℕ) → not (is_seen (seen ++ x ∷ []) y) ≡ (not (x == y) && not (is_seen seen y))
-      same y = rw (list_any-append (λ z. z == y) seen (x ∷ [])) (both (is_seen seen y) (x == y))
+    same : (y : ℕ) → not (is_seen (seen ++ x ∷ []) y) ≡ (not (x == y) && not (is_seen seen y))
+    same y = rw (list_any-append (λ z. z == y) seen (x ∷ [])) (both (is_seen seen y) (x == y))
 
 -- the devices of the mounts on a server
 abbrev pub on_server : ℕ → List Mount → List ℕ

@@ -2,8 +2,12 @@
 #![tactic(auto)]
 
 mod config;
+mod distinct;
+mod elements;
 mod error;
 pub mod json;
+mod limits;
+mod reading;
 
 pub use config::Config;
 pub use error::ConfigError;

@@ -12,6 +12,24 @@ use Rattle.keep_spec.specs.declared.token.TokenId.{TokenId}
 use Rattle.keep_spec.specs.declared.config.Field.{Field}
 use Rattle.keep_spec.specs.declared.config.Field.TheVariants.{Line, Cluster, Ttl, Skew, Secret, SystemToken, Tokens, Devices, Servers, Mounts, Versions, TrashLife, IndexDigits, ScanLimit, Unknown}
 
+-- how a field is called
+abbrev pub field_name : Field → List ℕ
+field_name Line = codes "Line"
+field_name Cluster = codes "cluster"
+field_name Ttl = codes "ttl"
+field_name Skew = codes "skew"
+field_name Secret = codes "secret"
+field_name SystemToken = codes "system_token"
+field_name Tokens = codes "tokens"
+field_name Devices = codes "devices"
+field_name Servers = codes "servers"
+field_name Mounts = codes "mounts"
+field_name Versions = codes "versions"
+field_name TrashLife = codes "trash_life"
+field_name IndexDigits = codes "index_digits"
+field_name ScanLimit = codes "scan_limit"
+field_name Unknown = codes "Unknown"
+
 -- ttl, skew and trash_life are seconds, capacities bytes
 pub record Configuration : Type 0 where
   pub cluster : List ℕ
@@ -96,7 +114,7 @@ is_trash_life n = is_within 0 100000000 n
 
 -- 1 and 2 are refused until rounds ask for pages by prefix
 abbrev pub is_index_digits : ℕ → Bool
-is_index_digits n = n == 0
+is_index_digits n = is_within 0 0 n
 
 abbrev pub is_scan_limit : ℕ → Bool
 is_scan_limit n = is_within 1 100000 n
@@ -175,7 +193,7 @@ Ok x >>= next = next x
 Err e >>= next = Err e
 
 -- the value of a field that passes its test, or else the field
-abbrev pub field : {X : Type 0} → Field → (X → Bool) → Option X → Result X Field
+unfoldable pub field : {X : Type 0} → Field → (X → Bool) → Option X → Result X Field
 field name test found = ok_or (option_filter test found) name
 
 abbrev pub is_object : Data → Bool

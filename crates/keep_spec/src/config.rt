@@ -42,3 +42,31 @@ pub enum Field {
     ScanLimit,
     Unknown,
 }
+
+impl Field {
+    ghost use Rattle.std.specs.Prelude.{◌≡◌};
+    ghost use Rattle.keep_spec.specs.Config.{field_name};
+
+    /// How the field is called, in a configuration and in messages.
+    pub fn name(self) -> &'static str
+        ensures { result.now ≡ field_name self }
+    {
+        match self {
+            Field::Line => "Line",
+            Field::Cluster => "cluster",
+            Field::Ttl => "ttl",
+            Field::Skew => "skew",
+            Field::Secret => "secret",
+            Field::SystemToken => "system_token",
+            Field::Tokens => "tokens",
+            Field::Devices => "devices",
+            Field::Servers => "servers",
+            Field::Mounts => "mounts",
+            Field::Versions => "versions",
+            Field::TrashLife => "trash_life",
+            Field::IndexDigits => "index_digits",
+            Field::ScanLimit => "scan_limit",
+            Field::Unknown => "Unknown",
+        }
+    }
+}
