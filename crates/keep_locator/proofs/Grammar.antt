@@ -1,11 +1,11 @@
 -- What is accepted a byte at a time is just what is a locator.
 use Rattle.std.proofs.Common.{◌≡◌, ℕ, zero, suc, ◌+◌, ◌-◌, ◌<◌, ◌≤◌, Bool, true, false, not, cond, ◌&&◌, nat_lt, nat_le, ◌==◌, ◌⊎◌, inl, inr, List, [], ◌∷◌, ◌++◌, length, take, drop, get_or, Option, Some, None, unwrap_or, if◌then◌else◌, refl, sym, ap, ◌∙◌, arith, zero-add}
 use Rattle.std.specs.Char.{is_ascii_digit, is_ascii_uppercase}
-use Rattle.std.specs.List.{list_all, prefix_len, onto_first}
+use Rattle.std.specs.List.{list_all, prefix_len, position_or_len, onto_first}
 use Rattle.std.specs.Option.{option_map}
 use Rattle.std.proofs.lemmas.Bool.{cases_Bool, cases_lt, lt-ltb, le-ltb, le-leb, lt-leb, eqb-true, eq-eqb, ne_eqb, and_left, and_right, and_from}
 use Rattle.std.proofs.lemmas.Bool.Decides.{nat_tests}
-use Rattle.std.proofs.lemmas.List.{drop-drop, length-take-le}
+use Rattle.std.proofs.lemmas.List.{drop-drop, nil_from_length}
 use Rattle.std.proofs.lemmas.List.Folds.{length-prefix_len}
 use Rattle.keep_spec.specs.Digest.{is_lower_digit, is_digest}
 use Rattle.keep_spec.specs.Locator.{is_hint_character, is_hint, cut_before_plus, is_number, size_digits, hints, is_locator}
@@ -249,3 +249,14 @@ accepts-start text =
     ∙ and_assoc front (is_count k) (are_hints (drop k (drop 33 text)))
     ∙ ap (λ b. (front && b) && are_hints (drop k (drop 33 text))) (sym (is_number-front (drop 33 text)))
     ∙ ap (λ b. (front && is_number (take k (drop 33 text))) && b) (sym (hints-front text))
+
+-- the hints of a text that isn't empty: the first, up to the next plus, and those behind it
+pub cut-first : (text : List ℕ) (n : ℕ) → 0 < length text → n ≡ position_or_len (λ c. c == 43) (drop 1 text) + 1 → cut_before_plus text ≡ take n text ∷ cut_before_plus (drop n text)
+cut-first [] n some is = absurd (omega (arith, some))
+cut-first (x ∷ ys) n some is =
+    let e : suc (prefix_len not_plus ys) ≡ n = omega (arith, is) in
+    cut-cons x ys ∙ ap (λ m. take m (x ∷ ys) ∷ cut_before_plus (drop m (x ∷ ys))) e
+
+pub cut-none : (text : List ℕ) → length text ≡ 0 → cut_before_plus text ≡ []
+unfolding cut_before_plus
+cut-none text none = ap cut_before_plus (nil_from_length text none)

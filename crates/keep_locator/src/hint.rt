@@ -1,11 +1,15 @@
 // The hints of a locator, one behind another.
 ghost use Rattle.std.specs.Prelude.{◌≡◌, ◌+◌, ◌<◌, ◌≤◌, ◌==◌, [], ◌∷◌, true, length, drop, if◌then◌else◌, MatchOption, IfSome};
+ghost use Rattle.std.specs.Char.{digit_value};
 ghost use Rattle.std.specs.List.{list_all, position_or_len};
 ghost use Rattle.std.specs.Str.Parse.{digits_value};
 ghost use Rattle.keep_spec.specs.Digest.{is_lower_digit};
 ghost use Rattle.keep_spec.specs.Locator.{cut_before_plus, is_permission_hint, permission_of};
 
 use keep_spec::{Permission, is_lower_digit};
+
+// `+A`, 40 digits, `@` and 8 digits.
+const PERMISSION_LEN: usize = 51;
 
 // The first of the hints, and the text behind it; none of an empty text.
 pub fn first_hint(text: &[u8]) -> Option<(&[u8], &[u8])>
@@ -22,7 +26,8 @@ pub fn first_hint(text: &[u8]) -> Option<(&[u8], &[u8])>
 // How many bytes stand before the next plus, the first byte aside.
 fn hint_len(text: &[u8]) -> usize
     requires { 0 < length text.now }
-    ensures { result ≡ position_or_len (λ c. c == 43) (drop 1 text.now) + 1 }
+    ensures place { result ≡ position_or_len (λ c. c == 43) (drop 1 text.now) + 1 }
+    ensures within { result ≤ length text.now }
 {
     for at in 1..text.len() {
         if text[at] == b'+' {
@@ -48,12 +53,12 @@ pub fn read_permission(hint: &[u8]) -> Option<Permission>
     })
 }
 
+#[tactic(auto, unfolding(keep_spec::specs::Locator::is_permission_hint))]
 fn is_permission_hint(hint: &[u8]) -> bool
     ensures { result ≡ is_permission_hint hint.now }
 {
-    hint.len() == 51
-        && hint[0] == b'+'
-        && hint[1] == b'A'
+    hint.len() == PERMISSION_LEN
+        && hint.starts_with(b"+A")
         && are_lower_digits(&hint[2..42])
         && hint[42] == b'@'
         && are_lower_digits(&hint[43..51])
@@ -73,11 +78,17 @@ fn hex_number(digits: &[u8]) -> u32
 {
     let mut value = 0;
     for byte in digits {
-        let digit = match *byte {
-            b'0'..=b'9' => *byte - b'0',
-            _ => *byte - b'a' + 10,
-        };
-        value = value * 16 + u32::from(digit);
+        value = value * 16 + digit_value(*byte);
     }
     value
+}
+
+fn digit_value(digit: u8) -> u32
+    requires { is_lower_digit digit ≡ true }
+    ensures { result ≡ digit_value digit }
+{
+    match digit {
+        b'0'..=b'9' => u32::from(digit - b'0'),
+        _ => u32::from(digit - b'a') + 10,
+    }
 }

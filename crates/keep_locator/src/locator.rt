@@ -74,7 +74,7 @@ impl<'a> Locator<'a> {
 }
 
 impl<'a> Locator<'a> {
-    ghost use Rattle.keep_spec.specs.Locator.{digest, size, stripped, hints, permission, is_empty_block, is_locator};
+    ghost use Rattle.keep_spec.specs.Locator.{digest, size, stripped, hints, permission, is_empty_block, is_locator, cut_before_plus};
 
     /// The digest.
     pub fn digest(&self) -> Digest
@@ -106,13 +106,20 @@ impl<'a> Locator<'a> {
     pub fn hint(&self, index: usize) -> Option<&'a [u8]>
         ensures { option_copied result ≡ slice_get (hints self.now) index }
     {
-        let mut rest = &self.text[self.size_end..];
+        let mut rest = self.hint_text();
         for _passed in 0..index {
             let (_, behind) = first_hint(rest)?;
             rest = behind;
         }
         let (hint, _) = first_hint(rest)?;
         Some(hint)
+    }
+
+    // The hints, one behind another.
+    fn hint_text(&self) -> &'a [u8]
+        ensures { cut_before_plus result.now ≡ hints self.now }
+    {
+        &self.text[self.size_end..]
     }
 
     /// Whether the digest is that of no bytes, and the size 0. Such a locator names nothing and needs no signature.
@@ -128,7 +135,7 @@ impl<'a> Locator<'a> {
         ensures { result ≡ permission self.now }
     {
         let mut found = None;
-        let mut rest = &self.text[self.size_end..];
+        let mut rest = self.hint_text();
         while let Some((hint, behind)) = first_hint(rest) {
             if let Some(permission) = read_permission(hint) {
                 if found.is_some() {
