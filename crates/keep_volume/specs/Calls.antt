@@ -60,12 +60,6 @@ pub record IsLine (line : State → Reply) (old new : Device) (result : Result D
   pub later : old.faults ≤ new.faults
   pub rules : new.rules ≡ old.rules
 
--- what a volume remembers is what the store tells
-pub record Remembers (held : Option (List (Name × Stored))) (index : List (Name × Sized)) (used : ℕ) : Type 0 where
-  pub names : IfSome held (λ es. index ≡ sizes es)
-  pub sum : used ≡ sum_by (λ e. e.1.size) index
-  pub small : used < 2 ^ 127
-
 -- the machine's line exactly, but for the list
 abbrev pub IsItem : (State → Reply) → Device → Device → Result DeviceAnswer Failed → Type 0
 IsItem line old new (Ok a) = IfSome (state_of old) (λ s. (a ≡ (line s).answer) × (state_of new ≡ Some (line s).state)) × (old.faults ≤ new.faults) × (new.rules ≡ old.rules) × (new.trash ≡ old.trash) × (a ≡ answers.StoreFault → ⊥)
@@ -79,13 +73,6 @@ IsStoreCall h old new (Err e) = (new ≡ over old (λ es. es) new.faults) × Ros
 abbrev pub without_first : Device → Device
 without_first d = record { held = d.held; round = d.round; trash = drop 1 d.trash; pull = d.pull; rules = d.rules; faults = d.faults }
 
--- the bytes that a name takes, as they are remembered
-abbrev pub size_at : Name → List (Name × Sized) → ℕ
-size_at n index = unwrap_or (option_map (λ (s : Sized). s.size) (find n index)) 0
-
-abbrev pub sized_held : Held → Name × Sized
-sized_held h = (h.name, record { mtime = h.mtime; size = h.size })
-
 -- a device that was opened: lists empty, the round is the note
 pub record IsOpened (told : Option (List (Name × Stored))) (noted : Option ℕ) (given : DeviceRules) (d : Device) : Type 0 where
   pub held : d.held ≡ told
@@ -98,13 +85,6 @@ pub record IsOpened (told : Option (List (Name × Stored))) (noted : Option ℕ)
 abbrev pub IsGivenBack : {S : Type 0} → Option (List (Name × Stored)) → Option ℕ → ℕ → (S → Option (List (Name × Stored))) → (S → Option ℕ) → (S → ℕ) → OpenError S → Type 0
 IsGivenBack held noted faults h n f (StoreFault s) = (h s ≡ held) × (n s ≡ noted) × Rose faults (f s)
 IsGivenBack held noted faults h n f (NoMemory s) = (h s ≡ held) × (n s ≡ noted) × (faults ≤ f s)
-
--- whether the deadline of a name has passed
-abbrev pub due : ℕ → Name × Sized → Bool
-due reading e = is_due_at reading e.0.deadline
-
-abbrev pub sized_entry : Name × Sized → Entry
-sized_entry e = record { digest = e.0.digest; mtime = e.1.mtime; size = e.1.size }
 
 -- the line exactly, whatever the contents are, told or not, and without the store
 pub record IsExactly (line : State → Reply) (old new : Device) (result : Result DeviceAnswer memory.NoMemory) : Type 0 where
