@@ -1,11 +1,9 @@
 -- A device over a store that may tell what it holds.
-use Rattle.std.specs.Prelude.{◌≡◌, ℕ, ◌≤◌, ◌<◌, ◌^◌, List, sum_by, Option, Some, option_map, IfSome, Result, Ok, Err, ◌⊎◌, ⊤, drop, unwrap_or, [], Bool}
+use Rattle.std.specs.Prelude.{◌≡◌, ◌≢◌, ℕ, ◌≤◌, List, Option, Some, option_map, IfSome, Result, Ok, Err, ◌⊎◌, ⊤, drop, [], true}
 use Rattle.keep_spec.specs.Causes.{Rose}
-use Rattle.keep_event.specs.Store.{sizes, find}
-use Rattle.keep_event.specs.Device.{State, Reply, is_due_at}
+use Rattle.keep_event.specs.Device.{State, Reply, restart}
 use Rattle.keep_event.specs.declared.names.Name.{Name}
 use Rattle.keep_event.specs.declared.names.Stored.{Stored}
-use Rattle.keep_event.specs.declared.names.Sized.{Sized}
 use Rattle.keep_event.specs.declared.lists.TrashItem.{TrashItem}
 use Rattle.keep_event.specs.declared.lists.PullItem.{PullItem}
 use Rattle.keep_event.specs.declared.device.DeviceRules.{DeviceRules}
@@ -13,8 +11,6 @@ use Rattle.keep_event.specs.declared.device.DeviceAnswer.{DeviceAnswer}
 use Rattle.keep_event.specs.declared.device.DeviceAnswer.TheVariants as answers
 use Rattle.keep_volume.specs.declared.volume.OpenError.{OpenError}
 use Rattle.keep_volume.specs.declared.volume.OpenError.TheVariants.{StoreFault, NoMemory}
-use Rattle.keep_event.specs.declared.names.Held.{Held}
-use Rattle.keep_event.specs.declared.lists.Entry.{Entry}
 use Rattle.keep_spec.specs.declared.memory.NoMemory as memory
 use Rattle.keep_store.specs.declared.store.Failed.{Failed}
 
@@ -96,3 +92,22 @@ pub record IsExactly (line : State → Reply) (old new : Device) (result : Resul
 -- a line that doesn't read the contents: the same whatever they are, told or not
 abbrev pub IsLineAnyway : (State → Reply) → Device → Device → Result DeviceAnswer memory.NoMemory → Type 0
 IsLineAnyway line old new result = (es : List (Name × Stored)) → IsToldLine line (state_with old es) (Some (state_with new es)) result
+
+-- a device that is read only answers so and stays as it is, told or not, and no other answers so
+pub record HasReadOnly (old new : Device) (result : Result DeviceAnswer memory.NoMemory) : Type 0 where
+  pub given : old.rules.read_only ≡ true → (result ≡ Ok answers.ReadOnly) × (new ≡ old)
+  pub only : result ≡ Ok answers.ReadOnly → old.rules.read_only ≡ true
+
+-- a round other than the kept one is answered Stale, told or not, and no other
+pub record HasStale (round : ℕ) (old new : Device) (result : Result DeviceAnswer memory.NoMemory) : Type 0 where
+  pub given : round ≢ old.round → (result ≡ Ok (answers.Stale old.round)) × (new ≡ old)
+  pub only : (held : ℕ) → result ≡ Ok (answers.Stale held) → round ≢ old.round
+
+-- an empty trash list is answered Idle, told or not, and no other
+pub record HasIdle (old new : Device) (result : Result DeviceAnswer memory.NoMemory) : Type 0 where
+  pub given : old.trash ≡ [] → (result ≡ Ok answers.Idle) × (new ≡ old)
+  pub only : result ≡ Ok answers.Idle → old.trash ≡ []
+
+-- opening the store again leaves what a restart leaves
+abbrev pub IsReopened : Option (List (Name × Stored)) → Option ℕ → Device → Type 0
+IsReopened told noted d = IfSome noted (λ n. (v : Device) → IsOpened told noted d.rules v → state_of v ≡ option_map (λ s. (restart s).state) (state_of d))

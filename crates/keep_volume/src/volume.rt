@@ -5,7 +5,7 @@ ghost use Rattle.keep_event.specs.Device as machine;
 ghost use Rattle.keep_event.specs.Store as store;
 ghost use Rattle.keep_event.specs.Store.{find, size_of, sized};
 ghost use Rattle.std.specs.List.{find as list_find, last_or, filter};
-ghost use Rattle.keep_volume.specs.Calls.{IsLine, IsLineAnyway, IsExactly, state_of, IsStoreCall, IsItem, Device, over, without_first, IsOpened, IsGivenBack};
+ghost use Rattle.keep_volume.specs.Calls.{IsLine, IsLineAnyway, IsExactly, HasReadOnly, HasStale, HasIdle, IsReopened, state_of, IsStoreCall, IsItem, Device, over, without_first, IsOpened, IsGivenBack};
 ghost use Rattle.keep_store.specs.Causes.{HasStoreCause};
 
 use crate::index::Index;
@@ -64,6 +64,7 @@ impl<S: Store> Volume<S> {
     pub fn open(alloc: Global, store: S, rules: DeviceRules) -> Result<Volume<S>, OpenError<S>>
         requires { rules.trash_life ≤ 100000000000000000 }
         ensures opened { IfOk result (λ v. IsOpened (S.held store) (S.noted store) rules v) }
+        ensures later { IfOk result (λ v. S.faults store ≤ v.faults) }
         ensures given_back { IfErr result (IsGivenBack (S.held store) (S.noted store) (S.faults store) S.held S.noted S.faults) }
     {
         let mut store = store;
@@ -95,6 +96,7 @@ impl<S: Store> Volume<S> {
         ensures held { S.held result ≡ self.held }
         ensures faults { S.faults result ≡ self.faults }
         ensures note { IfSome (S.noted result) (λ n. n ≡ self.round) }
+        ensures reopened { IsReopened (S.held result) (S.noted result) self }
     {
         let Volume {
             store,
@@ -159,6 +161,7 @@ impl<S: Store> Volume<S> {
         _token: Option<TokenId>,
     ) -> Result<DeviceAnswer, NoMemory>
         ensures line { IsLine (machine.touch self.old.rules digest.now reading) self.old self.new result }
+        ensures read_only { HasReadOnly self.old self.new result }
         ensures sure { IsOk result }
     {
         if self.rules.read_only {
@@ -215,6 +218,7 @@ impl<S: Store> Volume<S> {
 
     pub fn empty_next(&mut self, reading: u64) -> Result<DeviceAnswer, NoMemory>
         ensures line { IsLine (machine.empty_next self.old.rules reading) self.old self.new result }
+        ensures read_only { HasReadOnly self.old self.new result }
         ensures sure { IsOk result }
     {
         if self.rules.read_only {
@@ -237,7 +241,8 @@ impl<S: Store> Volume<S> {
         round: u64,
         prefix: &[u8],
     ) -> Result<DeviceAnswer, NoMemory>
-        ensures { IsLine (machine.page prefix.now round) self.old self.new result }
+        ensures line { IsLine (machine.page prefix.now round) self.old self.new result }
+        ensures stale { HasStale round self.old self.new result }
     {
         if round != self.round {
             return Ok(DeviceAnswer::Stale { held: self.round });
@@ -298,6 +303,7 @@ impl<S: Store> Volume<S> {
 
     pub fn untrash(&mut self, reading: u64, digest: &Digest) -> Result<DeviceAnswer, NoMemory>
         ensures line { IsLine (machine.untrash self.old.rules digest.now reading) self.old self.new result }
+        ensures read_only { HasReadOnly self.old self.new result }
         ensures sure { IsOk result }
     {
         if self.rules.read_only {
@@ -319,7 +325,8 @@ impl<S: Store> Volume<S> {
 
     // Puts the bytes in the place of what has the name, where there is room for them.
     fn place(&mut self, mtime: u64, block: &Block) -> Result<DeviceAnswer, NoMemory>
-        ensures { IsLine (machine.placed self.old.rules block.now mtime) self.old self.new result }
+        ensures line { IsLine (machine.placed self.old.rules block.now mtime) self.old self.new result }
+        ensures placed { result ≡ Ok DeviceAnswer.ReadOnly → ⊥ }
     {
         let name = replica(block.digest());
         let size = block.bytes().len() as u64;
@@ -346,7 +353,8 @@ impl<S: Store> Volume<S> {
         block: &Block,
         _token: Option<TokenId>,
     ) -> Result<DeviceAnswer, NoMemory>
-        ensures { IsLine (machine.write self.old.rules block.now reading) self.old self.new result }
+        ensures line { IsLine (machine.write self.old.rules block.now reading) self.old self.new result }
+        ensures read_only { HasReadOnly self.old self.new result }
     {
         if self.rules.read_only {
             return Ok(DeviceAnswer::ReadOnly);
@@ -383,7 +391,8 @@ impl<S: Store> Volume<S> {
     // What the first item of the trash list asks for, with the list as it is.
     fn trash_item(&mut self, reading: u64, item: TrashItem) -> Result<DeviceAnswer, Failed>
         requires { reading < 4000000000000000000 }
-        ensures { IsItem (machine.trash_item self.old.rules item reading) self.old self.new result }
+        ensures item { IsItem (machine.trash_item self.old.rules item reading) self.old self.new result }
+        ensures busy { result ≡ Ok DeviceAnswer.Idle → ⊥ }
     {
         if self.rules.read_only {
             return Ok(DeviceAnswer::ReadOnly);
@@ -417,6 +426,7 @@ impl<S: Store> Volume<S> {
     pub fn trash_next(&mut self, reading: u64) -> Result<DeviceAnswer, NoMemory>
         requires { reading < 4000000000000000000 }
         ensures line { IsLine (machine.trash_next self.old.rules reading) self.old self.new result }
+        ensures idle { HasIdle self.old self.new result }
         ensures sure { IsOk result }
     {
         let Some(item) = self.first_trash() else {
@@ -443,7 +453,8 @@ impl<S: Store> Volume<S> {
         block: &Block,
         _token: Option<TokenId>,
     ) -> Result<DeviceAnswer, NoMemory>
-        ensures { IsLine (machine.compare_touch self.old.rules block.now reading) self.old self.new result }
+        ensures line { IsLine (machine.compare_touch self.old.rules block.now reading) self.old self.new result }
+        ensures read_only { HasReadOnly self.old self.new result }
     {
         if self.rules.read_only {
             return Ok(DeviceAnswer::ReadOnly);

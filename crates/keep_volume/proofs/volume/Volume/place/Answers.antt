@@ -6,8 +6,8 @@ use Rattle.keep_volume.proofs.Sizes.{both-change, put-sizes, counts-told}
 use Rattle.keep_volume.proofs.Machine.{placed-full, placed-put}
 use Rattle.keep_volume.proofs.volume.Volume.place.Goals as goal
 
-pub returns-then-used-size_at : goal.returns-then-used-size_at
-returns-then-used-size_at g c = rw (← c.self.view_is)
+pub returns-then-used-size_at-clause-line : goal.returns-then-used-size_at-clause-line
+returns-then-used-size_at-clause-line g c = rw (← c.self.view_is)
     (stays-line _ _ (Full c.used-used.result c.self.inside.rules.capacity)
     (told-map (g.S.Store.held c.self.inside.store) (λ es k. placed-full c.self.inside.rules c.args.block.now c.args.mtime _ c.replica-name.result (search rules) c.used-used.result c.size_at.result (k.0 ∙ sym c.used-used.ensures.value) (k.1 ∙ sym c.size_at.ensures.value) (search rules))
     (counts-told c.replica-name.result (g.S.Store.held c.self.inside.store) c.self.inside.index.entries c.self.invariant.remembers)) (λ e. cc e))
@@ -22,8 +22,8 @@ invariant_of-self-2 g c =
       life = c.self.invariant.life;
     }
 
-pub returns : goal.returns
-returns g c = rw (← c.self.view_is)
+pub returns-clause-line : goal.returns-clause-line
+returns-clause-line g c = rw (← c.self.view_is)
     (becomes-line _ _ _ c.put.ensures.cause.later refl (Written c.args.mtime) (put c.replica-name.result (stored c.args.mtime c.args.block.now)) (search rules)
     (told-map (g.S.Store.held c.self.inside.store) (λ es k. placed-put c.self.inside.rules c.args.block.now c.args.mtime _ c.replica-name.result (search rules) c.used-used.result c.size_at.result (k.0 ∙ sym c.used-used.ensures.value) (k.1 ∙ sym c.size_at.ensures.value) (search rules))
     (counts-told c.replica-name.result (g.S.Store.held c.self.inside.store) c.self.inside.index.entries c.self.invariant.remembers)) (λ e. cc e))
