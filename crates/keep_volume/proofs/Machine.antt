@@ -281,3 +281,11 @@ no-items (x ∷ xs) e = absurd (omega arith)
 pub none-first : (xs ys : List PullItem) → xs ≡ ys → ys ≡ drop 1 xs → xs ≡ []
 none-first [] ys e f = refl
 none-first (x ∷ xs) ys e f = absurd (let h : length (x ∷ xs) ≡ length xs = ap length (e ∙ f) in omega (arith, h))
+
+pub none-at-first : {A : Type 0} (xs : List A) → slice_get xs 0 ≡ None → xs ≡ []
+none-at-first [] e = refl
+none-at-first (x ∷ xs) e = cc e
+
+pub some-at-first : {A : Type 0} (xs : List A) (x : A) → Some x ≡ slice_get xs 0 → xs ≡ [] → ⊥
+some-at-first [] x e f = cc e
+some-at-first (y ∷ xs) x e f = cc f

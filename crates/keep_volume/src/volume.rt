@@ -1,21 +1,19 @@
 // A device over a store.
 ghost use Rattle.std.specs.Prelude.{◌≡◌, ◌↔◌, ◌≤◌, IsTrue, option_copied, [], true, IfOk, IsOk, IfSome, Some, None, option_map, max, map, sum_by, IfErr, ◌+◌, ◌<◌, ◌^◌, slice_get};
 ghost use Rattle.md5.specs.Md5.{md5};
-ghost use Rattle.hex.specs.Hex.{encode_lower};
 ghost use Rattle.keep_event.specs.Device as machine;
 ghost use Rattle.keep_event.specs.Store as store;
 ghost use Rattle.keep_event.specs.Store.{find, size_of, sized};
 ghost use Rattle.std.specs.List.{find as list_find, last_or, filter};
-ghost use Rattle.keep_volume.specs.Calls.{IsLine, IsLineAnyway, IsExactly, state_of, IsStoreCall, IsItem, Device, over, without_first, size_at, due, sized_entry, sized_held, IsOpened, IsGivenBack};
+ghost use Rattle.keep_volume.specs.Calls.{IsLine, IsLineAnyway, IsExactly, HasReadOnly, HasStale, HasIdle, IsReopened, state_of, IsStoreCall, IsItem, Device, over, without_first, IsOpened, IsGivenBack};
 ghost use Rattle.keep_store.specs.Causes.{HasStoreCause};
 
-use hex::encode_to_slice;
+use crate::index::Index;
 use keep_event::{
-    Block, DeviceAnswer, DeviceQuery, DeviceRules, Entry, Held, Lists, Name, PullItem, Sized,
-    Stored, TrashItem,
+    Block, DeviceAnswer, DeviceQuery, DeviceRules, Lists, Name, PullItem, Sized, Stored, TrashItem,
 };
 use keep_spec::{Digest, Items, NoMemory, TokenId};
-use keep_store::{Failed, Store, StoreError, move_to, put_in_room, replace, take_out, value_of};
+use keep_store::{Failed, Store, StoreError};
 use md5::Md5;
 use std::alloc::Global;
 use std::collections::VecDeque;
@@ -31,8 +29,7 @@ pub enum OpenError<S> {
 #[derive(Drop)]
 pub struct Volume<S: Store> {
     store: S,
-    index: Vec<(Name, Sized)>,
-    used: u128,
+    index: Index,
     round: u64,
     trash: Vec<TrashItem>,
     trash_done: usize,
@@ -43,13 +40,14 @@ pub struct Volume<S: Store> {
 
 impl<S: Store> Model for Volume<S> {
     ghost use Rattle.std.specs.Prelude.{◌≡◌, ◌≤◌, length, drop, IfSome};
-    ghost use Rattle.keep_volume.specs.Calls.{Device, Remembers};
+    ghost use Rattle.keep_volume.specs.Calls.{Device};
+    ghost use Rattle.keep_volume.specs.Index.{Remembers};
 
     ghost Value = { Device };
 
     ghost view = { λ v. record { held = S.held v.store; round = v.round; trash = drop v.trash_done v.trash.items; pull = v.pull.items; rules = v.rules; faults = S.faults v.store } };
 
-    ghost invariant = { λ v. record { remembers : Remembers (S.held v.store) v.index.items v.used; done : v.trash_done ≤ length v.trash.items; noted : IfSome (S.noted v.store) (λ n. n ≡ v.round); life : v.rules.trash_life ≤ 100000000000000000 } };
+    ghost invariant = { λ v. record { remembers : Remembers (S.held v.store) v.index.entries; done : v.trash_done ≤ length v.trash.items; noted : IfSome (S.noted v.store) (λ n. n ≡ v.round); life : v.rules.trash_life ≤ 100000000000000000 } };
 }
 
 fn replica(digest: Digest) -> Name
@@ -66,6 +64,7 @@ impl<S: Store> Volume<S> {
     pub fn open(alloc: Global, store: S, rules: DeviceRules) -> Result<Volume<S>, OpenError<S>>
         requires { rules.trash_life ≤ 100000000000000000 }
         ensures opened { IfOk result (λ v. IsOpened (S.held store) (S.noted store) rules v) }
+        ensures later { IfOk result (λ v. S.faults store ≤ v.faults) }
         ensures given_back { IfErr result (IsGivenBack (S.held store) (S.noted store) (S.faults store) S.held S.noted S.faults) }
     {
         let mut store = store;
@@ -77,13 +76,12 @@ impl<S: Store> Volume<S> {
             Err(StoreError::Failed) => return Err(OpenError::StoreFault { store }),
             Err(StoreError::NoMemory) => return Err(OpenError::NoMemory { store }),
         };
-        let Ok((index, used)) = indexed(alloc, names.as_slice()) else {
+        let Ok(index) = Index::of_names(alloc, names.as_slice()) else {
             return Err(OpenError::NoMemory { store });
         };
         Ok(Volume {
             store,
             index,
-            used,
             round,
             trash: Vec::new(alloc),
             trash_done: 0,
@@ -98,11 +96,11 @@ impl<S: Store> Volume<S> {
         ensures held { S.held result ≡ self.held }
         ensures faults { S.faults result ≡ self.faults }
         ensures note { IfSome (S.noted result) (λ n. n ≡ self.round) }
+        ensures reopened { IsReopened (S.held result) (S.noted result) self }
     {
         let Volume {
             store,
             index: _,
-            used: _,
             round: _,
             trash: _,
             trash_done: _,
@@ -118,13 +116,25 @@ impl<S: Store> Volume<S> {
         ensures { IsStoreCall (λ es. store.touch name.now mtime es (find name.now es)) self.old self.new result }
     {
         let there = self.store.touch(name, mtime)?;
-        if let Some(sized) = value_of(&self.index, name) {
-            let renewed = Sized {
-                mtime,
-                size: sized.size,
-            };
-            let _ = replace(&mut self.index, name, renewed);
-        }
+        self.index.touch(name, mtime);
+        Ok(there)
+    }
+
+    // Gives what has a name another name and time.
+    fn rename(&mut self, from: &Name, to: &Name, mtime: u64) -> Result<bool, Failed>
+        ensures { IsStoreCall (λ es. store.rename from.now to.now mtime es (find from.now es)) self.old self.new result }
+    {
+        let there = self.store.rename(from, to, mtime)?;
+        self.index.rename(from, to, mtime);
+        Ok(there)
+    }
+
+    // Lets go of what has the name.
+    fn remove(&mut self, name: &Name) -> Result<bool, Failed>
+        ensures { IsStoreCall (store.without name.now) self.old self.new result }
+    {
+        let there = self.store.remove(name)?;
+        self.index.remove(name);
         Ok(there)
     }
 
@@ -141,7 +151,7 @@ impl<S: Store> Volume<S> {
     fn known(&self, name: &Name) -> Option<Sized>
         ensures { IfSome self.now.held (λ es. result ≡ option_map size_of (find name.now es)) }
     {
-        value_of(&self.index, name)
+        self.index.get(name)
     }
 
     pub fn touch(
@@ -151,6 +161,7 @@ impl<S: Store> Volume<S> {
         _token: Option<TokenId>,
     ) -> Result<DeviceAnswer, NoMemory>
         ensures line { IsLine (machine.touch self.old.rules digest.now reading) self.old self.new result }
+        ensures read_only { HasReadOnly self.old self.new result }
         ensures sure { IsOk result }
     {
         if self.rules.read_only {
@@ -197,26 +208,17 @@ impl<S: Store> Volume<S> {
         Ok(DeviceAnswer::Restarted)
     }
 
-    // Lets go of what has the name.
-    fn remove(&mut self, name: &Name) -> Result<bool, Failed>
-        ensures { IsStoreCall (store.without name.now) self.old self.new result }
-    {
-        let there = self.store.remove(name)?;
-        let freed = size_at(&self.index, name);
-        let _ = take_out(&mut self.index, name);
-        self.used -= freed as u128;
-        Ok(there)
-    }
-
     // The first trashed copy whose deadline has passed.
-    fn first_due(&self, reading: u64) -> Option<Name>
-        ensures { IfSome self.now.held (λ es. result ≡ option_map (λ e. e.0) (list_find (machine.is_due reading) es)) }
+    fn first_due(&mut self, reading: u64) -> Option<Name>
+        ensures value { IfSome self.old.held (λ es. result ≡ option_map (λ e. e.0) (list_find (machine.is_due reading) es)) }
+        ensures same { self.new ≡ self.old }
     {
-        first_of(&self.index, reading)
+        self.index.first_due(reading)
     }
 
     pub fn empty_next(&mut self, reading: u64) -> Result<DeviceAnswer, NoMemory>
         ensures line { IsLine (machine.empty_next self.old.rules reading) self.old self.new result }
+        ensures read_only { HasReadOnly self.old self.new result }
         ensures sure { IsOk result }
     {
         if self.rules.read_only {
@@ -239,14 +241,13 @@ impl<S: Store> Volume<S> {
         round: u64,
         prefix: &[u8],
     ) -> Result<DeviceAnswer, NoMemory>
-        ensures { IsLine (machine.page prefix.now round) self.old self.new result }
+        ensures line { IsLine (machine.page prefix.now round) self.old self.new result }
+        ensures stale { HasStale round self.old self.new result }
     {
         if round != self.round {
             return Ok(DeviceAnswer::Stale { held: self.round });
         }
-        let Ok(entries) = paged(self.alloc, &self.index, prefix) else {
-            return Err(NoMemory);
-        };
+        let entries = self.index.page(self.alloc, prefix)?;
         Ok(DeviceAnswer::Page {
             entries: Items::of(entries),
         })
@@ -297,11 +298,12 @@ impl<S: Store> Volume<S> {
     fn last_copy(&self, digest: &Digest) -> Option<(Name, Sized)>
         ensures { IfSome self.now.held (λ es. result ≡ option_map sized (machine.last_copy digest.now es)) }
     {
-        last_of(&self.index, digest)
+        self.index.last_copy(digest)
     }
 
     pub fn untrash(&mut self, reading: u64, digest: &Digest) -> Result<DeviceAnswer, NoMemory>
         ensures line { IsLine (machine.untrash self.old.rules digest.now reading) self.old self.new result }
+        ensures read_only { HasReadOnly self.old self.new result }
         ensures sure { IsOk result }
     {
         if self.rules.read_only {
@@ -323,28 +325,25 @@ impl<S: Store> Volume<S> {
 
     // Puts the bytes in the place of what has the name, where there is room for them.
     fn place(&mut self, mtime: u64, block: &Block) -> Result<DeviceAnswer, NoMemory>
-        ensures { IsLine (machine.placed self.old.rules block.now mtime) self.old self.new result }
+        ensures line { IsLine (machine.placed self.old.rules block.now mtime) self.old self.new result }
+        ensures placed { result ≡ Ok DeviceAnswer.ReadOnly → ⊥ }
     {
         let name = replica(block.digest());
-        let freed = size_at(&self.index, &name);
         let size = block.bytes().len() as u64;
-        let used = self.used - freed as u128 + size as u128;
-        if used > self.rules.capacity as u128 {
+        let used = self.index.used();
+        if used - self.index.size_at(&name) as u128 + size as u128 > self.rules.capacity as u128 {
             return Ok(DeviceAnswer::Full {
-                used: self.used,
+                used,
                 capacity: self.rules.capacity,
             });
         }
-        if self.index.reserve(1).is_err() {
-            return Err(NoMemory);
-        }
+        self.index.reserve_one()?;
         match self.store.put(&name, mtime, block.bytes()) {
             Ok(()) => {}
             Err(StoreError::Failed) => return Ok(DeviceAnswer::StoreFault),
             Err(StoreError::NoMemory) => return Err(NoMemory),
         }
-        put_in_room(&mut self.index, &name, Sized { mtime, size });
-        self.used = used;
+        self.index.put_in_room(&name, Sized { mtime, size });
         Ok(DeviceAnswer::Written { mtime })
     }
 
@@ -354,7 +353,8 @@ impl<S: Store> Volume<S> {
         block: &Block,
         _token: Option<TokenId>,
     ) -> Result<DeviceAnswer, NoMemory>
-        ensures { IsLine (machine.write self.old.rules block.now reading) self.old self.new result }
+        ensures line { IsLine (machine.write self.old.rules block.now reading) self.old self.new result }
+        ensures read_only { HasReadOnly self.old self.new result }
     {
         if self.rules.read_only {
             return Ok(DeviceAnswer::ReadOnly);
@@ -379,24 +379,6 @@ impl<S: Store> Volume<S> {
         }
     }
 
-    // Gives what has a name another name and time.
-    fn rename(&mut self, from: &Name, to: &Name, mtime: u64) -> Result<bool, Failed>
-        ensures { IsStoreCall (λ es. store.rename from.now to.now mtime es (find from.now es)) self.old self.new result }
-    {
-        let there = self.store.rename(from, to, mtime)?;
-        if let Some(sized) = value_of(&self.index, from) {
-            let _ = take_out(&mut self.index, from);
-            let freed = size_at(&self.index, to);
-            let renewed = Sized {
-                mtime,
-                size: sized.size,
-            };
-            put_in_room(&mut self.index, to, renewed);
-            self.used -= freed as u128;
-        }
-        Ok(there)
-    }
-
     // Takes the first item from the trash list.
     fn advance(&mut self)
         ensures { self.new ≡ without_first self.old }
@@ -409,7 +391,8 @@ impl<S: Store> Volume<S> {
     // What the first item of the trash list asks for, with the list as it is.
     fn trash_item(&mut self, reading: u64, item: TrashItem) -> Result<DeviceAnswer, Failed>
         requires { reading < 4000000000000000000 }
-        ensures { IsItem (machine.trash_item self.old.rules item reading) self.old self.new result }
+        ensures item { IsItem (machine.trash_item self.old.rules item reading) self.old self.new result }
+        ensures busy { result ≡ Ok DeviceAnswer.Idle → ⊥ }
     {
         if self.rules.read_only {
             return Ok(DeviceAnswer::ReadOnly);
@@ -443,6 +426,7 @@ impl<S: Store> Volume<S> {
     pub fn trash_next(&mut self, reading: u64) -> Result<DeviceAnswer, NoMemory>
         requires { reading < 4000000000000000000 }
         ensures line { IsLine (machine.trash_next self.old.rules reading) self.old self.new result }
+        ensures idle { HasIdle self.old self.new result }
         ensures sure { IsOk result }
     {
         let Some(item) = self.first_trash() else {
@@ -469,7 +453,8 @@ impl<S: Store> Volume<S> {
         block: &Block,
         _token: Option<TokenId>,
     ) -> Result<DeviceAnswer, NoMemory>
-        ensures { IsLine (machine.compare_touch self.old.rules block.now reading) self.old self.new result }
+        ensures line { IsLine (machine.compare_touch self.old.rules block.now reading) self.old self.new result }
+        ensures read_only { HasReadOnly self.old self.new result }
     {
         if self.rules.read_only {
             return Ok(DeviceAnswer::ReadOnly);
@@ -578,115 +563,4 @@ fn other_bytes(block: &Block, held: &[u8]) -> DeviceAnswer
         return DeviceAnswer::Collision;
     }
     DeviceAnswer::Corrupt { found }
-}
-
-// The bytes that a name takes.
-fn size_at(index: &[(Name, Sized)], name: &Name) -> u64
-    ensures { result ≡ size_at name.now index.now }
-{
-    match value_of(index, name) {
-        Some(sized) => sized.size,
-        None => 0,
-    }
-}
-
-// What a device remembers of the names, and their bytes.
-fn indexed(alloc: Global, names: &[Held]) -> Result<(Vec<(Name, Sized)>, u128), NoMemory>
-    ensures index { IfOk result (λ r. r.0.items ≡ map sized_held names.now) }
-    ensures used { IfOk result (λ r. r.1 ≡ sum_by (λ e. e.1.size) r.0.items) }
-    ensures small { IfOk result (λ r. r.1 < 2 ^ 127) }
-{
-    let mut index = Vec::new(alloc);
-    let mut used = 0u128;
-    for held in names {
-        let sized = Sized {
-            mtime: held.mtime,
-            size: held.size,
-        };
-        if index.push((held.name, sized)).is_err() {
-            return Err(NoMemory);
-        }
-        used += held.size as u128;
-    }
-    Ok((index, used))
-}
-
-// The first name whose deadline has passed.
-fn first_of(index: &[(Name, Sized)], reading: u64) -> Option<Name>
-    ensures { result ≡ option_map (λ e. e.0) (list_find (due reading) index.now) }
-{
-    for item in index {
-        if is_due(item.0.deadline, reading) {
-            return Some(item.0);
-        }
-    }
-    None
-}
-
-fn is_due(deadline: Option<u64>, reading: u64) -> bool
-    ensures { result ≡ machine.is_due_at reading deadline }
-{
-    match deadline {
-        Some(deadline) => deadline < reading,
-        None => false,
-    }
-}
-
-// The last copy of a digest.
-fn last_of(index: &[(Name, Sized)], digest: &Digest) -> Option<(Name, Sized)>
-    ensures { result ≡ last_or None (filter (λ e. machine.is_copy_of digest.now e.0) index.now) }
-{
-    let mut last = None;
-    for item in index {
-        if item.0.digest == *digest && item.0.deadline.is_some() {
-            last = Some(*item);
-        }
-    }
-    last
-}
-
-// Whether a replica's digits begin so.
-fn is_paged(name: &Name, prefix: &[u8]) -> bool
-    ensures { result ≡ machine.is_paged prefix.now name.now }
-{
-    if name.deadline.is_some() {
-        return false;
-    }
-    begins(&name.digest, prefix)
-}
-
-fn begins(digest: &Digest, prefix: &[u8]) -> bool
-    ensures { result ≡ machine.begins prefix.now digest.now }
-{
-    let digits = digits_of(digest);
-    let wanted = prefix.len().min(digits.len());
-    &digits[..wanted] == prefix
-}
-
-fn digits_of(digest: &Digest) -> [u8; 32]
-    ensures { result ≡ encode_lower digest.now }
-{
-    let mut digits = [0; 32];
-    let _ = encode_to_slice(digest.to_md5().as_slice(), &mut digits);
-    digits
-}
-
-// The entries of a page.
-fn paged(alloc: Global, index: &[(Name, Sized)], prefix: &[u8]) -> Result<Vec<Entry>, NoMemory>
-    ensures { IfOk result (λ v. v.items ≡ map sized_entry (filter (λ e. machine.is_paged prefix.now e.0) index.now)) }
-{
-    let mut entries = Vec::new(alloc);
-    for item in index {
-        if is_paged(&item.0, prefix) {
-            let entry = Entry {
-                digest: item.0.digest,
-                size: item.1.size,
-                mtime: item.1.mtime,
-            };
-            if entries.push(entry).is_err() {
-                return Err(NoMemory);
-            }
-        }
-    }
-    Ok(entries)
 }
