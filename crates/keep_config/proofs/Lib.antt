@@ -1,4 +1,5 @@
 pub mod Counts
+pub mod Equality
 pub mod Firsts
 pub mod Members
 pub mod Passing

@@ -46,8 +46,15 @@ impl Model for Config {
 }
 
 impl Config {
-    ghost use Rattle.std.specs.Prelude.{◌≡◌, ◌+◌, ◌<◌, ◌≤◌, length, Some, IfOk, All, slice_get};
+    ghost use Rattle.std.specs.Prelude.{◌≡◌, ◌↔◌, ◌+◌, ◌<◌, ◌≤◌, length, Some, IfOk, IsTrue, All, slice_get};
     ghost use Rattle.keep_spec.specs.Config.{token_of, token_text, devices_of, guard, grace, trash_life_nanos, threshold};
+
+    /// Whether both say the same. `==` answers this too.
+    pub fn same(&self, other: &Config) -> bool
+        ensures { IsTrue result ↔ (self.now ≡ other.now) }
+    {
+        self == other
+    }
 
     /// The number of a token: 0 is the system token, 1 and up are `tokens` in order.
     pub fn token(&self, text: &[u8]) -> Option<TokenId>
