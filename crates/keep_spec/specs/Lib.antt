@@ -1,7 +1,9 @@
 pub mod Causes
+pub mod Config
 pub mod Digest
 pub mod Json
 pub mod Lines
 pub mod Locator
 pub mod Portable
 pub mod Sign
+pub mod Uuid

@@ -1,0 +1,5 @@
+pub mod Counts
+pub mod Firsts
+pub mod Members
+pub mod Passing
+pub mod Text

@@ -1,0 +1,6 @@
+//! Devices.
+#![tactic(auto)]
+
+mod volume;
+
+pub use volume::{OpenError, Volume};
