@@ -1,5 +1,6 @@
 // Locators and texts that are none, by the words of the format.
 use crate::{BadLocator, Digest, Locator, PORTABLE_MAX, Permission, Portable};
+use std::process::Abort;
 use std::test::Fail;
 
 // The MD5 of `foo`, by md5sum.
@@ -47,7 +48,7 @@ struct Case {
 }
 
 #[test]
-fn locators_have_their_parts(rt: HostRuntime) -> Result<(), Fail> {
+fn locators_have_their_parts(rt: HostRuntime) {
     let cases = [
         Case {
             text: "acbd18db4cc2f85cedef654fccc4a4d8+3",
@@ -128,37 +129,31 @@ fn locators_have_their_parts(rt: HostRuntime) -> Result<(), Fail> {
         },
     ];
     for case in &cases {
-        let locator = Locator::read(case.text.as_bytes()).ok().ok_or("refused")?;
-        assert_eq!(rt; locator.size(), case.size, "{}", case.text);
-        assert_eq!(rt;
-            locator.stripped(),
-            case.stripped.as_bytes(),
-            "{}",
-            case.text
-        );
-        assert_eq!(rt;
-            locator.hint(0),
-            case.first_hint.map(|hint| hint.as_bytes()),
-            "{}",
-            case.text
-        );
-        assert_eq!(rt;
-            locator.hint(1),
-            case.second_hint.map(|hint| hint.as_bytes()),
-            "{}",
-            case.text
-        );
-        assert_eq!(rt; locator.hint(2), None, "{}", case.text);
-        assert_eq!(rt;
-            locator.is_empty_block(),
-            case.is_empty_block,
-            "{}",
-            case.text
-        );
-        let expiry = locator.permission().map(|permission| permission.expiry);
-        assert_eq!(rt; expiry, case.expiry, "{}", case.text);
+        assert_parts(&rt, case);
     }
-    Ok(())
+}
+
+fn assert_parts(rt: &impl Abort, case: &Case) {
+    let text = case.text;
+    let Ok(locator) = Locator::read(text.as_bytes()) else {
+        panic!(rt; "{text} is refused");
+    };
+    assert_eq!(rt; locator.size(), case.size, "{text}");
+    assert!(rt; locator.stripped() == case.stripped.as_bytes(), "{text}");
+    assert!(rt; is_hint(&locator, 0, case.first_hint), "{text}");
+    assert!(rt; is_hint(&locator, 1, case.second_hint), "{text}");
+    assert!(rt; is_hint(&locator, 2, None), "{text}");
+    assert_eq!(rt; locator.is_empty_block(), case.is_empty_block, "{text}");
+    let expiry = locator.permission().map(|permission| permission.expiry);
+    assert_eq!(rt; expiry, case.expiry, "{text}");
+}
+
+fn is_hint(locator: &Locator, index: usize, wanted: Option<&str>) -> bool {
+    match (locator.hint(index), wanted) {
+        (Some(hint), Some(wanted)) => hint == wanted.as_bytes(),
+        (None, None) => true,
+        _ => false,
+    }
 }
 
 // Each front of a locator begins one, and is one from the size on, where no plus is last.
