@@ -4,6 +4,7 @@
 mod bytes;
 mod digest;
 mod items;
+mod manifest;
 mod memory;
 mod permission;
 mod portable;
@@ -12,6 +13,7 @@ mod unverified;
 pub use bytes::Bytes;
 pub use digest::Digest;
 pub use items::Items;
+pub use manifest::{Kind, Manifest, Refusal, Segment, Stream};
 pub use memory::NoMemory;
 pub use permission::Permission;
 pub use portable::Portable;

@@ -1,0 +1,100 @@
+// Names and their escapes.
+ghost use Rattle.std.specs.Prelude.{◌≡◌, ◌+◌, ◌≤◌, ◌<◌, ◌×◌, ◌∷◌, ◌++◌, [], length, drop, IfOk};
+ghost use Rattle.keep_spec.specs.Names.{decode, encode, encode_byte, is_escaped, is_octal, octal_value, is_component, is_path, is_stream_name};
+
+use keep_spec::Bytes;
+use keep_spec::NoMemory;
+use std::alloc::Global;
+
+/// The bytes that a name in a manifest stands for: `\` and three octal digits of value at most 255 are one byte,
+/// `\\` is one backslash, and any other byte stands for itself.
+pub fn decode_name(alloc: Global, text: &[u8]) -> Result<Bytes, NoMemory>
+    ensures { IfOk result (λ name. name ≡ decode text.now) }
+{
+    let mut name = Vec::with_capacity(alloc, text.len())?;
+    let mut rest = text;
+    while !rest.is_empty() {
+        let (byte, width) = first_byte(rest);
+        name.push(byte)?;
+        rest = &rest[width..];
+    }
+    Ok(Bytes::of(name))
+}
+
+// The byte that a written name begins with, and how many bytes stand for it.
+fn first_byte(text: &[u8]) -> (u8, usize)
+    requires { 0 < length text.now }
+    ensures byte { decode text.now ≡ result.0 ∷ decode (drop result.1 text.now) }
+    ensures some { 0 < result.1 }
+    ensures within { result.1 ≤ length text.now }
+{
+    match text {
+        [b'\\', a, b, c, ..] if is_code(*a, *b, *c) => (code_value(*a, *b, *c), 4),
+        [b'\\', b'\\', ..] => (b'\\', 2),
+        _ => (text[0], 1),
+    }
+}
+
+/// A name as it is written in a manifest: the bytes 0 to 32, `:` and `\` each as `\` and three octal digits, all others
+/// as they are.
+pub fn encode_name(alloc: Global, name: &[u8]) -> Result<Bytes, NoMemory>
+    ensures written { IfOk result (λ text. text ≡ encode name.now) }
+    ensures read_again { IfOk result (λ text. decode text ≡ name.now) }
+{
+    let mut text = Vec::with_capacity(alloc, name.len())?;
+    push_name(&mut text, name)?;
+    Ok(Bytes::of(text))
+}
+
+// Appends a name as it is written.
+pub(crate) fn push_name(text: &mut Vec<u8>, name: &[u8]) -> Result<(), NoMemory>
+    ensures { IfOk result (λ _. text.new.items ≡ text.old.items ++ encode name.now) }
+{
+    for byte in name {
+        push_byte(text, *byte)?;
+    }
+    Ok(())
+}
+
+fn push_byte(text: &mut Vec<u8>, byte: u8) -> Result<(), NoMemory>
+    ensures { IfOk result (λ _. text.new.items ≡ text.old.items ++ encode_byte byte) }
+{
+    if byte <= 32 || byte == b':' || byte == b'\\' {
+        let escape = [b'\\', byte / 64 + 48, byte / 8 % 8 + 48, byte % 8 + 48];
+        text.extend_from_slice(&escape)?;
+    } else {
+        text.push(byte)?;
+    }
+    Ok(())
+}
+
+// One or more components with `/` between.
+pub(crate) fn is_path(name: &[u8]) -> bool
+    ensures { result ≡ is_path name.now }
+{
+    name.split(|b| *b == b'/').all(is_component)
+}
+
+// Neither empty, nor `.`, nor `..`.
+fn is_component(part: &[u8]) -> bool
+    ensures { result ≡ is_component part.now }
+{
+    !matches!(part, [] | [b'.'] | [b'.', b'.'])
+}
+
+// `.`, or `./` and a path.
+pub(crate) fn is_stream_name(name: &[u8]) -> bool
+    ensures { result ≡ is_stream_name name.now }
+{
+    match name {
+        [b'.'] => true,
+        [b'.', b'/', path @ ..] => is_path(path),
+        _ => false,
+    }
+}
+
+fn is_octal(b: u8) -> bool
+    ensures { result ≡ is_octal b }
+{
+    (b'0'..=b'7').contains(&b)
+}
