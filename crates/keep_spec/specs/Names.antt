@@ -9,9 +9,13 @@ is_octal b = nat_le 48 b && nat_le b 55
 abbrev pub octal_value : ℕ → ℕ → ℕ → ℕ
 octal_value a b c = (a - 48) * 64 + (b - 48) * 8 + (c - 48)
 
--- a backslash and three octal digits of value at most 255
+-- three octal digits of value at most 255
+abbrev pub is_code : ℕ → ℕ → ℕ → Bool
+is_code a b c = is_octal a && is_octal b && is_octal c && nat_le (octal_value a b c) 255
+
+-- a backslash and such a code
 abbrev pub is_escape : ℕ → ℕ → ℕ → ℕ → Bool
-is_escape x a b c = x == 92 && is_octal a && is_octal b && is_octal c && nat_le (octal_value a b c) 255
+is_escape x a b c = x == 92 && is_code a b c
 
 -- two backslashes
 abbrev pub is_double : ℕ → ℕ → Bool
