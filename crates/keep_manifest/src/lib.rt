@@ -2,6 +2,10 @@
 #![tactic(auto)]
 
 mod cut;
+mod fault;
 mod names;
+mod number;
+mod segment;
 
+pub use fault::BadManifest;
 pub use names::{decode_name, encode_name};

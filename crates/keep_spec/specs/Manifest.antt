@@ -75,7 +75,7 @@ stream_of line = stream_of_tokens (slice_split (λ b. b == 32) line)
 
 -- each line ends with a newline: nothing stands behind the last one
 abbrev pub streams_of : List (List ℕ) → Option (List Stream)
-streams_of [] = None
+streams_of [] = Some []
 streams_of (line ∷ []) = if length line == 0 then Some [] else None
 streams_of (line ∷ next ∷ more) = do
   s ← stream_of line
