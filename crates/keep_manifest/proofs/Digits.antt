@@ -28,7 +28,7 @@ pub number_step : (ds : List ℕ) (i : ℕ) → is_number ds ≡ true → i < le
 unfolding is_number
 number_step ds i e h =
     let short : length ds ≤ 19 = grind (arith, nat_tests) in
-    let all : list_all is_ascii_digit ds ≡ true = second_true _ _ e in
+    let all : list_all is_ascii_digit ds ≡ true = second_true (leb 1 (length ds) && leb (length ds) 19) (list_all is_ascii_digit ds) e in
     let range = digit_at ds i (are_digits.to ds all) h in
     let bound = digits_value_short are_digits ds 19 all short in
     let part = digits_value-take-le 10 ds (i + 1) (omega arith) in

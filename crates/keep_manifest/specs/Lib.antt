@@ -1,2 +1,4 @@
 pub mod Escapes
 pub mod Reading
+pub mod Saying
+pub mod Tokens

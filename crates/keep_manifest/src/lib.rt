@@ -3,6 +3,7 @@
 
 mod cut;
 mod fault;
+mod line;
 mod names;
 mod number;
 mod segment;
