@@ -18,6 +18,11 @@ Gives (Ok x) reading = reading ≡ Ok x
 Gives (Err NoMemory) reading = Unit {0}
 Gives (Err (Refused f)) reading = reading ≡ Err f
 
+-- the error has its cause in the first refusal, unless memory was refused
+abbrev pub IsCause : Option Refusal → BadManifest → Type 0
+IsCause refusal NoMemory = Unit {0}
+IsCause refusal (Refused f) = refusal ≡ Some f
+
 infixl 10 ◌>>=◌
 abbrev pub ◌>>=◌ : {A B : Type 0} → Result A Refusal → (A → Result B Refusal) → Result B Refusal
 (Ok x) >>= f = f x

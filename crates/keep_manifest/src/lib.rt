@@ -6,7 +6,9 @@ mod fault;
 mod line;
 mod names;
 mod number;
+mod reading;
 mod segment;
 
 pub use fault::BadManifest;
 pub use names::{decode_name, encode_name};
+pub use reading::read;
