@@ -1,7 +1,8 @@
 -- What is read is what the definitions say: the value and the first refusal, of which just one is there.
 use Rattle.std.proofs.Common.{◌≡◌, ℕ, suc, ◌+◌, ◌-◌, ◌≤◌, ◌<◌, eqb, ltb, leb, Bool, true, false, not, ◌&&◌, cond, List, [], ◌∷◌, ◌++◌, length, drop, Option, Some, None, option_map, option_and_then, Result, Ok, Err, refl, ap, sym, subst, ◌∙◌, append_assoc, append-nil, zero-add, arith, ◌↔◌, IsSome}
 use Rattle.std.proofs.Math.Dec.{eqb-suc-zero}
-use Rattle.std.proofs.lemmas.Bool.{lt-ltb}
+use Rattle.std.proofs.lemmas.Bool.{lt-ltb, false≢true}
+use Rattle.std.proofs.lemmas.Option.{none-some}
 use Rattle.std.proofs.lemmas.List.Sums.{take_while-cons, sum_by-append}
 use Rattle.std.specs.Prelude.{take_while, sum_by}
 use Rattle.std.specs.List.{slice_split, prefix_len}
@@ -260,7 +261,7 @@ pieces_agree at (line ∷ next ∷ more) =
     more_agrees s (Err e) v b h = rw (h.0, h.1) (refl, refl)
 
 -- a text
-abbrev manifest_with : List Stream → Manifest
+abbrev pub manifest_with : List Stream → Manifest
 manifest_with streams = record { streams = streams }
 
 whole_agrees : (r : Result (List Stream) Refusal) (v : Option (List Stream)) (b : Option Refusal) → Agrees r v b → Agrees (r >>= λ ss. Ok (manifest_with ss)) (option_map manifest_with v) b
@@ -271,10 +272,16 @@ pub text_agrees : (text : List ℕ) → Agrees (pieces_at 0 (lines_of text) >>= 
 unfolding manifest_of bad
 text_agrees text = whole_agrees (pieces_at 0 (lines_of text)) _ _ (pieces_agree 0 (lines_of text))
 
+pub text_read : (text : List ℕ) (streams : List Stream) → pieces_at 0 (lines_of text) ≡ Ok streams → manifest_of text ≡ Some (manifest_with streams)
+text_read text streams e = (subst (λ r. Agrees (r >>= λ ss. Ok (manifest_with ss)) (manifest_of text) (bad text)) e (text_agrees text)).0
+
+pub text_bad : (text : List ℕ) (f : Refusal) → pieces_at 0 (lines_of text) ≡ Err f → bad text ≡ Some f
+text_bad text f e = (subst (λ r. Agrees (r >>= λ ss. Ok (manifest_with ss)) (manifest_of text) (bad text)) e (text_agrees text)).1
+
 -- each text is a manifest or is refused, and none is both
 one_of_both : {X : Type 0} (r : Result X Refusal) (v : Option X) (b : Option Refusal) → Agrees r v b → (b ≡ None) ↔ IsSome v
-one_of_both (Ok x) v b h = ?
-one_of_both (Err f) v b h = ?
+one_of_both (Ok x) v b h = (λ _. rw h.0 refl, λ _. h.1)
+one_of_both (Err f) v b h = (λ e. absurd (none-some f (sym e ∙ h.1)), λ s. absurd (false≢true (rw h.0 at s)))
 
 pub refused_or_read : (text : List ℕ) → (bad text ≡ None) ↔ IsSome (manifest_of text)
 refused_or_read text = one_of_both _ _ _ (text_agrees text)
