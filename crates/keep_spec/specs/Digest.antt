@@ -13,7 +13,7 @@ lower_digit_value c = if nat_lt c 58 then c - 48 else c - 87
 unfoldable pub bytes_of_digits : List ℕ → List ℕ
 bytes_of_digits [] = []
 bytes_of_digits (high ∷ []) = []
-bytes_of_digits (high ∷ low ∷ rest) = (16 * lower_digit_value high + lower_digit_value low) ∷ bytes_of_digits rest
+bytes_of_digits (high ∷ low ∷ rest) = (lower_digit_value high * 16 + lower_digit_value low) ∷ bytes_of_digits rest
 
 abbrev pub is_digest : List ℕ → Bool
 is_digest text = (length text == 32) && list_all is_lower_digit text

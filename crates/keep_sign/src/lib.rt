@@ -1,0 +1,6 @@
+//! Signatures of locators.
+#![tactic(auto)]
+
+mod signing;
+
+pub use signing::{hmac, sign};

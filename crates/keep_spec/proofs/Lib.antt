@@ -1,0 +1,4 @@
+pub mod DigestText
+pub mod Fronts
+pub mod NumberText
+pub mod PortableText
