@@ -3,12 +3,15 @@
 
 mod cut;
 mod fault;
+mod good;
 mod line;
 mod names;
-mod number;
 mod reading;
 mod segment;
+mod writing;
 
 pub use fault::BadManifest;
+pub use good::is_good;
 pub use names::{decode_name, encode_name};
 pub use reading::read;
+pub use writing::write;

@@ -130,7 +130,7 @@ fn first_token(text: &[u8]) -> (&[u8], Option<&[u8]>)
 }
 
 // The size that a locator says; None where the token is no locator.
-fn locator_size(token: &[u8]) -> Option<u64>
+pub(crate) fn locator_size(token: &[u8]) -> Option<u64>
     ensures value { result ≡ (if is_locator token.now then Some (block_size token.now) else None) }
     ensures bound { IfSome result (λ n. n < 10 ^ 19) }
 {

@@ -7,8 +7,7 @@ ghost use Rattle.keep_manifest.specs.Reading.{Gives, segment_at};
 use crate::cut::cut_at;
 use crate::fault::{refused, BadManifest};
 use crate::names::{decode_name, is_path};
-use crate::number::number_of;
-use keep_spec::{Kind, NoMemory, Segment};
+use keep_spec::{Kind, NoMemory, Segment, read_number};
 use std::alloc::Global;
 
 // The segment that a token says in a stream of `total` bytes. `at` is the token's offset in the text.
@@ -41,13 +40,13 @@ fn segment_form(alloc: Global, token: &[u8]) -> Result<Option<Segment>, NoMemory
     let Some((digits, rest)) = cut_at(token, b':') else {
         return Ok(None);
     };
-    let Some(position) = number_of(digits) else {
+    let Some(position) = read_number(digits) else {
         return Ok(None);
     };
     let Some((digits, name)) = cut_at(rest, b':') else {
         return Ok(None);
     };
-    let Some(size) = number_of(digits) else {
+    let Some(size) = read_number(digits) else {
         return Ok(None);
     };
     let name = decode_name(alloc, name)?;

@@ -1,9 +1,9 @@
 -- Manifests (the Arvados manifest format), and where a text that is none is refused (this project's own rule).
-use Rattle.std.specs.Prelude.{ℕ, ◌+◌, ◌==◌, ◌&&◌, ◌||◌, nat_lt, nat_le, Bool, List, [], ◌∷◌, length, drop, sum_by, take_while, Option, None, Some, option_and_then, option_map, if◌then◌else◌, codes}
-use Rattle.std.specs.List.{prefix_len, slice_split}
+use Rattle.std.specs.Prelude.{ℕ, ◌+◌, ◌==◌, ◌&&◌, ◌||◌, nat_lt, nat_le, Bool, not, ◌≡◌, List, [], ◌∷◌, ◌++◌, length, map, filter, decimal, drop, sum_by, take_while, Option, None, Some, option_and_then, option_map, if◌then◌else◌, codes}
+use Rattle.std.specs.List.{prefix_len, slice_split, flat_map}
 use Rattle.std.specs.Str.{bytes_eq}
-use Rattle.keep_spec.specs.Locator.{is_number, number, is_locator, size}
-use Rattle.keep_spec.specs.Names.{decode, is_path, is_stream_name}
+use Rattle.keep_spec.specs.Locator.{is_number, number, is_locator, size, digest, is_empty_block}
+use Rattle.keep_spec.specs.Names.{decode, encode, is_path, is_stream_name}
 use Rattle.keep_spec.specs.declared.manifest.Manifest.{Manifest}
 use Rattle.keep_spec.specs.declared.manifest.Stream.{Stream}
 use Rattle.keep_spec.specs.declared.manifest.Segment.{Segment}
@@ -85,3 +85,28 @@ streams_of (line ∷ next ∷ more) = do
 -- the manifest of a text, where it is one
 unfoldable pub manifest_of : List ℕ → Option Manifest
 manifest_of text = option_map (λ ss. record { streams = ss }) (streams_of (slice_split (λ b. b == 10) text))
+
+-- A manifest is good where some text reads to it.
+abbrev pub IsGood : Manifest → Type 0
+IsGood m = (text : List ℕ) × (manifest_of text ≡ Some m)
+
+-- How a manifest is written: names with their escapes, and numbers without leading zeros.
+abbrev pub segment_text : Segment → List ℕ
+segment_text s = decimal s.position ++ 58 ∷ decimal s.size ++ 58 ∷ encode s.name
+
+-- a token that follows another
+abbrev pub follow : List ℕ → List ℕ
+follow token = 32 ∷ token
+
+abbrev pub stream_text : Stream → List ℕ
+stream_text s = encode s.name ++ flat_map follow s.locators ++ flat_map (λ g. follow (segment_text g)) s.segments ++ 10 ∷ []
+
+unfoldable pub text_of : Manifest → List ℕ
+text_of m = flat_map stream_text m.streams
+
+-- The digests that a manifest names: those of its locators in their order, but the empty block.
+abbrev pub named_in : List (List ℕ) → List (List ℕ)
+named_in locators = map digest (filter (λ l. not (is_empty_block l)) locators)
+
+unfoldable pub named : Manifest → List (List ℕ)
+named m = flat_map (λ s. named_in s.locators) m.streams
