@@ -3,3 +3,5 @@ pub mod Cuts
 pub mod Decoding
 pub mod Pieces
 pub mod Tokens
+pub mod Totals
+pub mod Visible
