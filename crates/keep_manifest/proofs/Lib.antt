@@ -5,3 +5,5 @@ pub mod Pieces
 pub mod Tokens
 pub mod Totals
 pub mod Visible
+pub mod WellFormed
+pub mod Written

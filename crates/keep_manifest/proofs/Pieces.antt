@@ -21,7 +21,7 @@ filled_onto : (x : ℕ) (parts : List (List ℕ)) → (y : List ℕ) × (ys : Li
 filled_onto x [] = (x ∷ [], [], refl)
 filled_onto x (p ∷ ps) = (x ∷ p, ps, refl)
 
-some_line : (text : List ℕ) → (y : List ℕ) × (ys : List (List ℕ)) × (lines_of text ≡ y ∷ ys)
+pub some_line : (text : List ℕ) → (y : List ℕ) × (ys : List (List ℕ)) × (lines_of text ≡ y ∷ ys)
 some_line [] = ([], [], refl)
 some_line (x ∷ xs) = by_newline (eqb x 10)
     where
