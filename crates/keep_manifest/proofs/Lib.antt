@@ -1,6 +1,7 @@
 pub mod Agreement
 pub mod Cuts
 pub mod Decoding
+pub mod Distinct
 pub mod Pieces
 pub mod Tokens
 pub mod Totals
