@@ -1,4 +1,5 @@
 pub mod DigestText
 pub mod Fronts
+pub mod LocatorText
 pub mod NumberText
 pub mod PortableText

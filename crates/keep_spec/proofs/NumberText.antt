@@ -8,7 +8,8 @@ use Rattle.std.proofs.lemmas.Option.{cond_some}
 use Rattle.std.proofs.lemmas.List.Sums.{prefix_len-le-length}
 use Rattle.std.specs.List.{list_all, prefix_len}
 use Rattle.std.specs.Char.{is_ascii_digit, digit_value}
-use Rattle.std.specs.Str.Parse.{digits_value_after}
+use Rattle.std.specs.Str.Parse.{digits_value_after, AllDigits}
+use Rattle.std.proofs.lemmas.Int.Digits.{digits_value-lt}
 use Rattle.keep_spec.specs.Locator.{is_number, number}
 use Rattle.keep_spec.proofs.Fronts.{prefix_len-all, list_all-from_prefix_len}
 
@@ -70,3 +71,20 @@ read_number-some text h = ap (λ b. number_if b (number text)) h
 
 pub read_number_is : (text : List ℕ) (n : ℕ) → number_if (is_number text) (number text) ≡ Some n → (is_number text ≡ true) × (n ≡ number text)
 read_number_is text n e = let parts = cond_some (is_number text) (number text) n e in (parts.0, sym parts.1)
+
+AllDigits-from_all : (text : List ℕ) → list_all is_ascii_digit text ≡ true → AllDigits 10 text
+AllDigits-from_all [] all = tt
+AllDigits-from_all (c ∷ cs) all =
+    let parts = and_parts (is_ascii_digit c) (list_all is_ascii_digit cs) all in
+    let value = digit_value-decimal c parts.0 in
+    let range = digit-range c parts.0 in
+    (omega (arith, value, range), AllDigits-from_all cs parts.1)
+
+-- 19 digits write a number below 10^19
+pub number-lt : (text : List ℕ) → is_number text ≡ true → number text < 10 ^ 19
+unfolding is_number
+number-lt text h =
+    let a = and_parts (nat_le 1 (length text) && nat_le (length text) 19) (list_all is_ascii_digit text) h in
+    let b = and_parts (nat_le 1 (length text)) (nat_le (length text) 19) a.0 in
+    let bound = digits_value-lt 10 text (AllDigits-from_all text a.1) in
+    omega (arith, bound, ten-le (length text) 19 (leb-true (length text) 19 b.1))

@@ -55,9 +55,9 @@ unfoldable pub is_locator : List ℕ → Bool
 is_locator text =
     is_digest (take 32 text) && (slice_index text 32 == 43) && is_number (size_digits text) && list_all is_hint (hints text)
 
--- the digest of no bytes, and a size of value 0
+-- a size of value 0, and the digest of no bytes
 unfoldable pub is_empty_block : List ℕ → Bool
-is_empty_block text = bytes_eq (take 32 text) (codes "d41d8cd98f00b204e9800998ecf8427e") && (size text == 0)
+is_empty_block text = (size text == 0) && bytes_eq (take 32 text) (codes "d41d8cd98f00b204e9800998ecf8427e")
 
 -- The same in the words of the grammar: a digest, `+`, a number and hints, one behind another.
 pub record IsJoined (text digits number : List ℕ) (hints : List (List ℕ)) : Type 0 where
@@ -70,11 +70,11 @@ pub record IsJoined (text digits number : List ℕ) (hints : List (List ℕ)) : 
 unfoldable pub is_permission_hint : List ℕ → Bool
 is_permission_hint hint =
     (length hint == 51) && starts_with nat_eq hint (codes "+A") && list_all is_lower_digit (take 40 (drop 2 hint))
-    && (slice_index hint 42 == 64) && list_all is_lower_digit (drop 43 hint)
+    && (slice_index hint 42 == 64) && list_all is_lower_digit (take 8 (drop 43 hint))
 
 -- its signature, and its expiry in seconds
 unfoldable pub permission_of : List ℕ → Permission
-permission_of hint = record { signature = take 40 (drop 2 hint); expiry = digits_value 16 (drop 43 hint) }
+permission_of hint = record { signature = take 40 (drop 2 hint); expiry = digits_value 16 (take 8 (drop 43 hint)) }
 
 -- the member of a list of one
 abbrev pub only_one : {X : Type 0} → List X → Option X

@@ -1,0 +1,5 @@
+pub mod Fronts
+pub mod Grammar
+pub mod HintText
+pub mod Machine
+pub mod TextRead
