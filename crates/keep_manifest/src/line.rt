@@ -11,6 +11,7 @@ use crate::cut::cut_at;
 use crate::fault::{refused, BadManifest};
 use crate::names::{decode_name, is_stream_name};
 use crate::segment::read_segment;
+use keep_locator::Locator;
 use keep_spec::{Bytes, Items, Kind, Segment, Stream};
 use std::alloc::{AllocError, Global};
 
@@ -134,5 +135,8 @@ pub(crate) fn locator_size(token: &[u8]) -> Option<u64>
     ensures value { result ≡ (if is_locator token.now then Some (block_size token.now) else None) }
     ensures bound { IfSome result (λ n. n < 10 ^ 19) }
 {
-    None
+    match Locator::read(token) {
+        Ok(locator) => Some(locator.size()),
+        Err(_) => None,
+    }
 }

@@ -8,6 +8,7 @@ ghost use Rattle.keep_spec.specs.Locator.{is_locator, is_empty_block, digest};
 ghost use Rattle.keep_spec.specs.Manifest.{IsGood, named_in, named as named_by};
 ghost use Rattle.keep_manifest.specs.Good.{is_good_manifest};
 
+use keep_locator::Locator;
 use keep_spec::{Bytes, Digest, Manifest, NoMemory};
 use std::alloc::{AllocError, Global};
 
@@ -53,5 +54,12 @@ fn named_digest(locator: &[u8]) -> Option<Digest>
     requires { IsTrue (is_locator locator.now) }
     ensures { result ≡ (if is_empty_block locator.now then None else Some (digest locator.now)) }
 {
-    None
+    let Ok(locator) = Locator::read(locator) else {
+        unreachable!()
+    };
+    if locator.is_empty_block() {
+        None
+    } else {
+        Some(locator.digest())
+    }
 }
