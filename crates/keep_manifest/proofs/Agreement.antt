@@ -58,7 +58,7 @@ unfolding segments_at
 segments_agree at total [] = (refl, refl)
 segments_agree at total (token ∷ tokens) =
     then_agrees _ _ _ _ _ _ (segment_agrees at total token) (λ s. more_agrees s _ _ _ (segments_agree (at + length token + 1) total tokens))
-    where
+  where
     more_agrees : (s : Segment) (r : Result (List Segment) Refusal) (v : Option (List Segment)) (b : Option Refusal) → Agrees r v b → Agrees (r >>= λ ss. Ok (s ∷ ss)) (option_and_then (λ ss. Some (s ∷ ss)) v) b
     more_agrees s (Ok ss) v b h = rw (h.0, h.1) (refl, refl)
     more_agrees s (Err e) v b h = rw (h.0, h.1) (refl, refl)
@@ -105,14 +105,14 @@ segments_begin at token tokens l ls other =
 
 stream_no_locators : (name : List ℕ) (tokens : List (List ℕ)) → stream_of_parts name [] tokens ≡ None
 stream_no_locators name tokens = by_name (is_stream_name name) name tokens refl
-    where
+  where
     by_name : (b : Bool) (name : List ℕ) (tokens : List (List ℕ)) → is_stream_name name ≡ b → stream_of_parts name [] tokens ≡ None
     by_name true name tokens e = rw e
     by_name false name tokens e = rw e
 
 stream_no_segments : (name : List ℕ) (l : List ℕ) (ls : List (List ℕ)) → stream_of_parts name (l ∷ ls) [] ≡ None
 stream_no_segments name l ls = by_name (is_stream_name name) refl
-    where
+  where
     by_name : (b : Bool) → is_stream_name name ≡ b → stream_of_parts name (l ∷ ls) [] ≡ None
     by_name true e = rw (e, lt-ltb 0 (length (l ∷ ls)) (omega arith))
     by_name false e = rw e
@@ -157,7 +157,7 @@ segments_end : (at end : ℕ) (name l : List ℕ) (ls : List (List ℕ)) (t : Li
 unfolding segments_at whole
 segments_end at end name l ls t ts named other =
     rw (segments_begin at t ts l ls other, stream_whole name l ls t ts named) (ended (segment_at at (total_size (l ∷ ls)) t) (segments_at (at + length t + 1) (total_size (l ∷ ls)) ts) _ _ (segments_agree at (total_size (l ∷ ls)) (t ∷ ts)))
-    where
+  where
     ended : (r : Result Segment Refusal) (q : Result (List Segment) Refusal) (v : Option (List Segment)) (b : Option Refusal) → Agrees (r >>= λ s. q >>= λ ss. Ok (s ∷ ss)) v b → Agrees (adding (l ∷ ls) [] (r >>= λ s. q >>= λ ss. Ok (s ∷ ss)) >>= whole end name) (option_map (with_segments name (l ∷ ls)) v) b
     ended (Ok s) (Ok ss) v b h = rw (h.0, h.1, eqb-suc-zero (length ls), eqb-suc-zero (length ss)) (refl, refl)
     ended (Ok s) (Err e) v b h = rw (h.0, h.1) (refl, refl)
@@ -178,7 +178,7 @@ locator_taken at end name ls t ts e h =
     let taken : tokens_at at (t ∷ ts) (saying ls []) ≡ tokens_at (at + length t + 1) ts (saying (ls ++ t ∷ []) []) = tokens_taken in
     let parts : ls ++ front (t ∷ ts) ≡ (ls ++ t ∷ []) ++ front ts = ap (λ xs. ls ++ xs) (front_yes t ts e) ∙ sym (append_assoc ls (t ∷ []) (front ts)) in
     rw (taken, parts, behind_yes t ts e, bad_from_more at end ls t ts e) h
-    where
+  where
     tokens_taken : tokens_at at (t ∷ ts) (saying ls []) ≡ tokens_at (at + length t + 1) ts (saying (ls ++ t ∷ []) [])
     tokens_taken = rw e
 
@@ -217,7 +217,7 @@ unfolding tokens_at whole bad_from
 tokens_agree at end name [] [] named = (stream_no_locators name [], refl)
 tokens_agree at end name (l ∷ ls) [] named = locators_only at end name l ls
 tokens_agree at end name ls (t ∷ ts) named = by_locator (is_locator t) refl (tokens_agree (at + length t + 1) end name (ls ++ t ∷ []) ts named)
-    where
+  where
     by_locator : (b : Bool) → is_locator t ≡ b → AgreesFrom (at + length t + 1) end name (ls ++ t ∷ []) ts → AgreesFrom at end name ls (t ∷ ts)
     by_locator true e h = locator_taken at end name ls t ts e h
     by_locator false e h = locator_missing at end name ls t ts named e
@@ -226,7 +226,7 @@ named_agrees : (at end : ℕ) (tokens : List (List ℕ)) → Agrees (named_at at
 unfolding named_at bad_from
 named_agrees at end [] = (refl, refl)
 named_agrees at end (name ∷ tokens) = by_name (is_stream_name (decode name)) refl
-    where
+  where
     by_name : (b : Bool) → is_stream_name (decode name) ≡ b → Agrees (named_at at end (name ∷ tokens)) (stream_of_tokens (name ∷ tokens)) (bad_tokens at end (name ∷ tokens))
     by_name true e =
         agrees_as _ (tokens_at (at + length name + 1) tokens nothing >>= whole end (decode name)) _ (stream_of_tokens (name ∷ tokens)) _ (bad_locators (at + length name + 1) end tokens)
@@ -255,7 +255,7 @@ pieces_agree at [] = (refl, refl)
 pieces_agree at (last ∷ []) = last_agrees at last (eqb (length last) 0) refl
 pieces_agree at (line ∷ next ∷ more) =
     then_agrees _ _ _ _ _ _ (line_agrees at line) (λ s. more_agrees s _ _ _ (pieces_agree (at + length line + 1) (next ∷ more)))
-    where
+  where
     more_agrees : (s : Stream) (r : Result (List Stream) Refusal) (v : Option (List Stream)) (b : Option Refusal) → Agrees r v b → Agrees (r >>= λ ss. Ok (s ∷ ss)) (option_and_then (λ ss. Some (s ∷ ss)) v) b
     more_agrees s (Ok ss) v b h = rw (h.0, h.1) (refl, refl)
     more_agrees s (Err e) v b h = rw (h.0, h.1) (refl, refl)

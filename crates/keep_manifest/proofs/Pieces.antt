@@ -24,7 +24,7 @@ filled_onto x (p ∷ ps) = (x ∷ p, ps, refl)
 pub some_line : (text : List ℕ) → (y : List ℕ) × (ys : List (List ℕ)) × (lines_of text ≡ y ∷ ys)
 some_line [] = ([], [], refl)
 some_line (x ∷ xs) = by_newline (eqb x 10)
-    where
+  where
     by_newline : (b : Bool) → (y : List ℕ) × (ys : List (List ℕ)) × (cond b ([] ∷ lines_of xs) (onto_first x (lines_of xs)) ≡ y ∷ ys)
     by_newline true = ([], lines_of xs, refl)
     by_newline false = filled_onto x (lines_of xs)

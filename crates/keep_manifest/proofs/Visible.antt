@@ -147,7 +147,7 @@ number_of-decimal n small =
 
 encoded_byte_visible : (b : ℕ) → list_all is_visible (encode_byte b) ≡ true
 encoded_byte_visible b = chosen (is_escaped b) refl
-    where
+  where
     chosen : (e : Bool) → is_escaped b ≡ e → list_all is_visible (cond e (92 ∷ (b / 64 + 48) ∷ (b / 8 % 8 + 48) ∷ (b % 8 + 48) ∷ []) (b ∷ [])) ≡ true
     chosen true e = rw (lt-ltb 32 (b / 64 + 48) (omega arith), lt-ltb 32 (b / 8 % 8 + 48) (omega arith), lt-ltb 32 (b % 8 + 48) (omega arith)) refl
     chosen false e = let above : is_visible b ≡ true = grind (arith, nat_tests) in rw above refl

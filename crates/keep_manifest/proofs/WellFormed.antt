@@ -78,7 +78,7 @@ stream_good name locators tokens s all e =
 
 line_good : (line : List ℕ) (s : Stream) → stream_of line ≡ Some s → is_good_stream s ≡ true
 line_good line s e = tokens_good (slice_split (λ b. eqb b 32) line) e
-    where
+  where
     tokens_good : (tokens : List (List ℕ)) → stream_of_tokens tokens ≡ Some s → is_good_stream s ≡ true
     tokens_good [] e = absurd (none-some s e)
     tokens_good (name ∷ tokens) e = stream_good (decode name) (take_while is_locator tokens) (drop (prefix_len is_locator tokens) tokens) s (all_of_front is_locator tokens) e

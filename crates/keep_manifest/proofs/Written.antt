@@ -58,7 +58,7 @@ flat_map-append f (x ∷ xs) ys = ap (λ zs. f x ++ zs) (flat_map-append f xs ys
 line_regrouped : (s : Stream) → stream_text s ≡ line_text s ++ 10 ∷ []
 line_regrouped s =
     let tokens : flat_map follow (written_tokens s) ≡ flat_map follow s.locators ++ flat_map (λ g. follow (segment_text g)) s.segments =
-        flat_map-append follow s.locators (map segment_text s.segments) ∙ ap (λ xs. flat_map follow s.locators ++ xs) (follow_map s.segments) in
+    flat_map-append follow s.locators (map segment_text s.segments) ∙ ap (λ xs. flat_map follow s.locators ++ xs) (follow_map s.segments) in
     ap (λ xs. xs ++ 10 ∷ []) (append_assoc (encode s.name) (flat_map follow s.locators) (flat_map (λ g. follow (segment_text g)) s.segments) ∙ ap (λ xs. encode s.name ++ xs) (sym tokens))
 
 -- the parts of a good stream

@@ -43,7 +43,9 @@ fn is_good_stream(stream: &Stream) -> bool
 fn are_good_segments(total: u128, segments: &[Segment]) -> bool
     ensures { result ≡ list_all (is_good_segment total) segments.now }
 {
-    segments.iter().all(|segment| is_good_segment(total, segment))
+    segments
+        .iter()
+        .all(|segment| is_good_segment(total, segment))
 }
 
 fn is_good_segment(total: u128, segment: &Segment) -> bool

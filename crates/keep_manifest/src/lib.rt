@@ -9,10 +9,13 @@ mod names;
 mod naming;
 mod reading;
 mod segment;
+#[cfg(test)]
+mod tests;
 mod writing;
 
 pub use fault::BadManifest;
 pub use good::is_good;
+pub use keep_spec::{Kind, Manifest, Refusal, Segment, Stream};
 pub use names::{decode_name, encode_name};
 pub use naming::named;
 pub use reading::read;

@@ -8,7 +8,7 @@ ghost use Rattle.keep_manifest.specs.Reading.{Gives, line_at};
 ghost use Rattle.keep_manifest.specs.Tokens.{tokens_of};
 
 use crate::cut::cut_at;
-use crate::fault::{refused, BadManifest};
+use crate::fault::{BadManifest, refused};
 use crate::names::{decode_name, is_stream_name};
 use crate::segment::read_segment;
 use keep_locator::Locator;

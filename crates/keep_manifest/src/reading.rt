@@ -6,7 +6,7 @@ ghost use Rattle.keep_manifest.specs.Reading.{IsCause, Gives, pieces_at};
 ghost use Rattle.keep_manifest.specs.Tokens.{lines_of};
 
 use crate::cut::cut_at;
-use crate::fault::{refused, BadManifest};
+use crate::fault::{BadManifest, refused};
 use crate::line::read_line;
 use keep_spec::{Items, Kind, Manifest, Stream};
 use std::alloc::Global;

@@ -5,7 +5,7 @@ ghost use Rattle.keep_spec.specs.Manifest.{segment_form, is_named, is_within};
 ghost use Rattle.keep_manifest.specs.Reading.{Gives, segment_at};
 
 use crate::cut::cut_at;
-use crate::fault::{refused, BadManifest};
+use crate::fault::{BadManifest, refused};
 use crate::names::{decode_name, is_path};
 use keep_spec::{Kind, NoMemory, Segment, read_number};
 use std::alloc::Global;

@@ -18,6 +18,7 @@ returns-clause-named c =
     let is = dedup_is _ _ _ c.dedup.ensures.filtered in
     let moved = c.sort_unstable.ensures.permutation in
     λ h.
-    rw (is, ← c.in_ok-digests.ensures)
-    (λ in_result. Contains-permutation _ _ h (IsPermutation-sym _ _ moved) (Contains-from_dedup _ c.sort_unstable.new.self.items h in_result),
-    λ in_text. dedup_keeps c.sort_unstable.new.self.items h (Contains-permutation _ _ h moved in_text))
+    rw (is, ← c.in_ok-digests.ensures) (
+      λ in_result. Contains-permutation _ _ h (IsPermutation-sym _ _ moved) (Contains-from_dedup _ c.sort_unstable.new.self.items h in_result),
+      λ in_text. dedup_keeps c.sort_unstable.new.self.items h (Contains-permutation _ _ h moved in_text),
+    )
