@@ -1,6 +1,14 @@
-//! Signatures of locators.
+//! Signatures of locators: making them, checking them, and texts with other signatures.
 #![tactic(auto)]
 
-mod signing;
+mod mac;
+mod signature;
+mod text;
+mod verification;
 
-pub use signing::{hmac, sign};
+pub use keep_manifest::BadManifest;
+pub use keep_spec::{Permission, Triple, Unverified};
+pub use mac::hmac;
+pub use signature::{hex8, sign};
+pub use text::{sign_manifest, unsigned_manifest};
+pub use verification::verify;

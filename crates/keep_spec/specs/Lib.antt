@@ -9,4 +9,5 @@ pub mod Names
 pub mod Portable
 pub mod Refusals
 pub mod Sign
+pub mod SignedText
 pub mod Uuid

@@ -1,6 +1,6 @@
 use Rattle.std.proofs.Common.{◌≡◌, ◌≤◌, List, [], ◌∷◌, ℕ, length, refl, sym, ◌∙◌, arith}
 use Rattle.keep_spec.specs.Sign.{without_zeros}
-use Rattle.keep_sign.proofs.signing.without_zeros.Goals as goal
+use Rattle.keep_sign.proofs.signature.without_zeros.Goals as goal
 
 short : (xs : List ℕ) → length xs ≤ 1 → without_zeros xs ≡ xs
 short [] le = refl

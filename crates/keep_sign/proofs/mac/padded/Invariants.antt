@@ -1,5 +1,5 @@
 use Rattle.std.proofs.Common.{◌≡◌, ◌<◌, ℕ, length, get_or, bit_xor}
-use Rattle.keep_sign.proofs.signing.padded.Given as goal
+use Rattle.keep_sign.proofs.mac.padded.Given as goal
 
 abbrev pub invariant-loop-i : goal.invariant-loop-i
 invariant-loop-i l = record {
