@@ -4,6 +4,10 @@ pub mod Digest
 pub mod Json
 pub mod Lines
 pub mod Locator
+pub mod Manifest
+pub mod Names
 pub mod Portable
+pub mod Refusals
 pub mod Sign
+pub mod SignedText
 pub mod Uuid
