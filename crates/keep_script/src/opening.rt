@@ -94,13 +94,10 @@ fn digest_of_member(member: Option<&Value>) -> Option<Option<Digest>>
     ensures { result ≡ digest_of_data (option_map view (option_copied member.entry)) }
 {
     match member {
-        Some(value) => match value.as_str() {
-            Some(text) => match Digest::read(text.as_bytes()) {
-                Some(digest) => Some(Some(digest)),
-                None => None,
-            },
-            None => None,
-        },
+        Some(value) => {
+            let digest = Digest::read(value.as_str()?.as_bytes())?;
+            Some(Some(digest))
+        }
         None => Some(None),
     }
 }
