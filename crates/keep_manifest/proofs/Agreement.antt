@@ -1,10 +1,10 @@
 -- What is read is what the definitions say: the value and the first refusal, of which just one is there.
-use Rattle.std.proofs.Common.{◌≡◌, ℕ, suc, ◌+◌, ◌-◌, ◌≤◌, ◌<◌, eqb, ltb, leb, Bool, true, false, not, ◌&&◌, cond, List, [], ◌∷◌, ◌++◌, length, drop, Option, Some, None, option_map, option_and_then, Result, Ok, Err, refl, ap, sym, subst, ◌∙◌, append_assoc, append-nil, zero-add, arith, ◌↔◌, IsSome}
+use Rattle.std.proofs.Common.{◌≡◌, ℕ, suc, ◌+◌, eqb, Bool, true, false, ◌&&◌, cond, List, [], ◌∷◌, ◌++◌, length, drop, Option, Some, None, option_map, option_and_then, Result, Ok, Err, refl, ap, sym, subst, ◌∙◌, append_assoc, append-nil, zero-add, arith, ◌↔◌, IsSome}
 use Rattle.std.proofs.Math.Dec.{eqb-suc-zero}
 use Rattle.std.proofs.lemmas.Bool.{lt-ltb, false≢true}
 use Rattle.std.proofs.lemmas.Option.{none-some}
 use Rattle.std.proofs.lemmas.List.Sums.{take_while-cons, sum_by-append}
-use Rattle.std.specs.Prelude.{take_while, sum_by}
+use Rattle.std.specs.Prelude.{take_while}
 use Rattle.std.specs.List.{slice_split, prefix_len}
 use Rattle.keep_spec.specs.Names.{decode, is_stream_name}
 use Rattle.keep_spec.specs.Locator.{is_locator, size}
@@ -14,8 +14,7 @@ use Rattle.keep_spec.specs.declared.manifest.Stream.{Stream}
 use Rattle.keep_spec.specs.declared.manifest.Manifest.{Manifest}
 use Rattle.keep_spec.specs.declared.manifest.Segment.{Segment}
 use Rattle.keep_spec.specs.declared.manifest.Refusal.{Refusal}
-use Rattle.keep_spec.specs.declared.manifest.Kind.{Kind}
-use Rattle.keep_spec.specs.declared.manifest.Kind.TheVariants.{BadStream, BadLocator, NoSegment, BadSegment, BadName, PastEnd, NoNewline}
+use Rattle.keep_spec.specs.declared.manifest.Kind.TheVariants.{BadStream, BadLocator}
 use Rattle.keep_manifest.specs.Tokens.{lines_of}
 use Rattle.keep_manifest.specs.Reading.{Said, nothing, with_segment, refuse, judged, segment_at, token_at, tokens_at, whole, named_at, line_at, pieces_at, ◌>>=◌}
 

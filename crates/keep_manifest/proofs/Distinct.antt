@@ -1,5 +1,5 @@
 -- Digests sorted, each once.
-use Rattle.std.proofs.Common.{◌≡◌, ℕ, true, List, sym, nat_eq}
+use Rattle.std.proofs.Common.{ℕ, List, sym, nat_eq}
 use lib.Pointwise.{pointwise, bytes_decides}
 use Rattle.std.specs.Ordering.{nat_cmp}
 use Rattle.std.specs.Cmp.Lexicographic.{slice_cmp}

@@ -1,5 +1,5 @@
 -- The tokens of a line, one after another.
-use Rattle.std.proofs.Common.{◌≡◌, ℕ, ◌+◌, ◌-◌, ◌≤◌, ◌<◌, eqb, Bool, true, false, cond, List, [], ◌∷◌, length, Option, Some, None, Result, Ok, Err, MatchOption, refl, ap, sym, subst, ◌∙◌, arith}
+use Rattle.std.proofs.Common.{◌≡◌, ℕ, ◌+◌, ◌-◌, ◌≤◌, eqb, true, false, List, ◌∷◌, length, Option, Some, None, Result, Ok, Err, MatchOption, ap, sym, subst, ◌∙◌, arith}
 use Rattle.std.specs.List.{slice_split}
 use denote.Ref.{Bor}
 use Rattle.keep_spec.specs.Names.{decode, is_stream_name}

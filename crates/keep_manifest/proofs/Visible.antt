@@ -1,21 +1,20 @@
 -- Which bytes stand in what is written: none of them is a space or a newline.
-use Rattle.std.proofs.Common.{◌≡◌, ◌≢◌, ℕ, zero, suc, ◌+◌, ◌-◌, ◌/◌, ◌%◌, ◌^◌, ◌<◌, ◌≤◌, eqb, ltb, leb, Bool, true, false, not, ◌&&◌, ◌||◌, cond, List, [], ◌∷◌, ◌++◌, length, take, drop, get_or, Option, Some, None, option_map, refl, ap, sym, subst, ◌∙◌, append_assoc, arith, rules, ◌⊎◌, inl, inr}
-use Rattle.std.specs.Prelude.{take_while, decimal, codes, map}
-use Rattle.std.specs.List.{list_all, flat_map, prefix_len, slice_split, onto_first}
-use Rattle.std.specs.Char.{is_ascii_digit, is_ascii_uppercase, is_ascii_alphanumeric, digit_value}
-use Rattle.std.specs.Str.Parse.{digits_value, AllDigits}
-use Rattle.std.proofs.lemmas.Bool.{and_parts, and_from, cases_Bool, eqb-true, eq-eqb, ne_eqb, not-true, lt-ltb, ltb-true, le-leb, false≢true, false_from_ne_true}
+use Rattle.std.proofs.Common.{◌≡◌, ℕ, zero, suc, ◌+◌, ◌/◌, ◌%◌, ◌^◌, ◌<◌, eqb, ltb, leb, Bool, true, false, not, ◌&&◌, cond, List, [], ◌∷◌, ◌++◌, length, take, drop, get_or, Some, None, refl, ap, sym, subst, ◌∙◌, append_assoc, arith, rules}
+use Rattle.std.specs.Prelude.{decimal}
+use Rattle.std.specs.List.{list_all, prefix_len, onto_first}
+use Rattle.std.specs.Char.{is_ascii_digit, is_ascii_uppercase}
+use Rattle.std.specs.Str.Parse.{digits_value}
+use Rattle.std.proofs.lemmas.Bool.{and_parts, and_from, eqb-true, eq-eqb, not-true, lt-ltb, le-leb, false≢true, false_from_ne_true}
 use Rattle.std.proofs.lemmas.Bool.Decides.{nat_tests}
 use Rattle.std.proofs.lemmas.List.{drop-drop}
 use Rattle.std.proofs.lemmas.List.Folds.{list_all-append, length-prefix_len}
-use Rattle.std.proofs.lemmas.Str.Parse.{IsNumeralModel, numerals_by_value, digits_value_short}
+use Rattle.std.proofs.lemmas.Str.Parse.{IsNumeralModel, numerals_by_value}
 use Rattle.std.proofs.lemmas.Fmt.{decimal_is_IsNumeral, length-decimal-le}
 use Rattle.keep_spec.specs.Digest.{is_lower_digit, is_digest}
 use Rattle.keep_spec.specs.Locator.{is_number, number, is_hint_character, is_hint, cut_before_plus, size_digits, hints, is_locator}
-use Rattle.keep_spec.specs.Names.{encode, encode_byte, is_escaped, decode}
+use Rattle.keep_spec.specs.Names.{encode, encode_byte, is_escaped}
 use Rattle.keep_spec.specs.Manifest.{cut_at, number_of, segment_form, segment_text}
 use Rattle.keep_spec.specs.declared.manifest.Segment.{Segment}
-use Rattle.keep_manifest.proofs.Cuts.{split_found, split_none}
 use Rattle.keep_manifest.proofs.Decoding.{decode_encode}
 
 -- neither a space nor a byte below it

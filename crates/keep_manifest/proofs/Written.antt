@@ -1,12 +1,12 @@
 -- What was written reads to what it was written of.
-use Rattle.std.proofs.Common.{◌≡◌, ℕ, zero, suc, ◌+◌, ◌^◌, ◌<◌, ◌≤◌, eqb, ltb, leb, Bool, true, false, not, ◌&&◌, cond, List, [], ◌∷◌, ◌++◌, length, take, drop, Option, Some, None, option_map, option_and_then, refl, ap, sym, subst, ◌∙◌, append_assoc, append-nil, arith}
+use Rattle.std.proofs.Common.{◌≡◌, ℕ, ◌^◌, ◌<◌, eqb, ltb, true, not, ◌&&◌, cond, List, [], ◌∷◌, ◌++◌, length, take, drop, Option, Some, None, option_map, option_and_then, refl, ap, sym, ◌∙◌, append_assoc, append-nil, arith}
 use Rattle.std.specs.Prelude.{take_while, map}
 use Rattle.std.specs.List.{list_all, flat_map, prefix_len, slice_split}
-use Rattle.std.proofs.lemmas.Bool.{and_parts, and_from, lt-ltb, ltb-true, le-leb, not_from_false, ne_eqb}
+use Rattle.std.proofs.lemmas.Bool.{and_parts, and_from, ltb-true}
 use Rattle.std.proofs.lemmas.Bool.Decides.{nat_tests}
 use Rattle.std.proofs.lemmas.List.{take_at, drop_at, length-map}
 use Rattle.keep_spec.specs.Locator.{is_locator}
-use Rattle.keep_spec.specs.Names.{encode, decode, is_stream_name}
+use Rattle.keep_spec.specs.Names.{encode, is_stream_name}
 use Rattle.keep_spec.specs.Manifest.{segment_of, segment_text, is_segment, each, total_size, follow, stream_of, stream_of_tokens, stream_of_parts, streams_of, stream_text, text_of, manifest_of}
 use Rattle.keep_spec.specs.declared.manifest.Manifest.{Manifest}
 use Rattle.keep_spec.specs.declared.manifest.Stream.{Stream}

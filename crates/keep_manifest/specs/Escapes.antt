@@ -1,5 +1,5 @@
 -- What a written name begins with.
-use Rattle.std.specs.Prelude.{ℕ, ◌==◌, ◌&&◌, Bool, false, List, [], ◌∷◌}
+use Rattle.std.specs.Prelude.{ℕ, Bool, false, List, [], ◌∷◌}
 use Rattle.keep_spec.specs.Names.{is_escape, is_double}
 
 abbrev pub begins_escape : List ℕ → Bool

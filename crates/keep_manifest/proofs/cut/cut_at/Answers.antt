@@ -1,7 +1,5 @@
-use Rattle.std.proofs.Common.{◌≡◌, ◌<◌, ◌+◌, ◌-◌, suc, take, drop, length, refl, ◌∙◌, ap, sym, Some, add-one, arith}
-use Rattle.std.proofs.lemmas.Grind.{common_steps}
+use Rattle.std.proofs.Common.{◌≡◌, ◌+◌, ◌-◌, suc, take, drop, length, refl, ◌∙◌, ap, sym, Some, add-one, arith}
 use Rattle.std.proofs.lemmas.Slice.{between_to_end}
-use Rattle.keep_spec.specs.Manifest.{cut_at}
 use Rattle.keep_manifest.proofs.Cuts.{cut_at_found, cut_at_none}
 use Rattle.keep_manifest.proofs.cut.cut_at.Goals as goal
 

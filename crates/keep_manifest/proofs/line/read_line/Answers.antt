@@ -1,9 +1,7 @@
-use Rattle.std.proofs.Common.{◌≡◌, ◌+◌, ◌-◌, length, true, false, Ok, Err, ap, sym, subst, ◌∙◌, arith}
+use Rattle.std.proofs.Common.{◌≡◌, ◌+◌, ◌-◌, length, true, false, Err, ap, sym, ◌∙◌, arith}
 use Rattle.std.proofs.lemmas.Result.{err_from_is_err_and}
 use Rattle.keep_spec.specs.Names.{decode, is_stream_name}
-use Rattle.keep_manifest.specs.Reading.{Gives, line_at, whole, ◌>>=◌}
 use Rattle.keep_manifest.specs.Saying.{said}
-use Rattle.keep_manifest.specs.Tokens.{tokens_of}
 use Rattle.keep_manifest.proofs.Tokens.{left, left_behind, step_more, step_fail, step_end, line_named, line_unnamed, line_refused, line_stops, line_ends}
 use Rattle.keep_manifest.proofs.line.read_line.Goals as goal
 

@@ -1,4 +1,4 @@
-use Rattle.std.proofs.Common.{◌≡◌, ◌++◌, [], length, ◌∙◌, ap, sym, append-nil, arith}
+use Rattle.std.proofs.Common.{◌≡◌, ◌++◌, [], ◌∙◌, ap, sym, append-nil, arith}
 use Rattle.std.proofs.lemmas.Bool.Decides.{nat_tests}
 use Rattle.keep_spec.specs.Names.{decode}
 use Rattle.keep_manifest.proofs.Decoding.{decode_nothing}

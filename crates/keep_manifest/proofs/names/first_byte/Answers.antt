@@ -1,5 +1,5 @@
-use Rattle.std.proofs.Common.{sym, arith, ◌≡◌, true, false, rules}
-use Rattle.keep_manifest.specs.Escapes.{begins_escape, begins_double}
+use Rattle.std.proofs.Common.{◌≡◌, true}
+use Rattle.keep_manifest.specs.Escapes.{begins_escape}
 use Rattle.keep_manifest.proofs.Decoding.{decode_escape, decode_double, decode_plain}
 use Rattle.keep_manifest.proofs.names.first_byte.Goals as goal
 

@@ -1,4 +1,4 @@
-use Rattle.std.proofs.Common.{◌≡◌, ◌-◌, ◌+◌, length, eqb, true, false, ◌∙◌, ap, sym, Ok, Err, arith}
+use Rattle.std.proofs.Common.{◌≡◌, ◌-◌, length, eqb, false, ◌∙◌, ap, sym, Ok, Err, arith}
 use Rattle.std.proofs.lemmas.Result.{err_from_is_err_and}
 use Rattle.std.proofs.lemmas.Bool.Decides.{nat_tests}
 use Rattle.keep_manifest.proofs.Cuts.{length_found}
