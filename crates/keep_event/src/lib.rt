@@ -6,6 +6,8 @@ mod device;
 mod event;
 mod lists;
 mod names;
+#[cfg(test)]
+mod tests;
 
 pub use block::{Block, TooLong};
 pub use device::{DeviceAnswer, DeviceQuery, DeviceRules};
