@@ -7,6 +7,8 @@ mod event;
 mod lists;
 mod names;
 mod task;
+#[cfg(test)]
+mod tests;
 
 pub use block::{Block, TooLong};
 pub use device::{DeviceAnswer, DeviceQuery, DeviceRules};

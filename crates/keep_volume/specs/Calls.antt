@@ -69,6 +69,9 @@ IsStoreCall h old new (Err e) = (new ≡ over old (λ es. es) new.faults) × Ros
 abbrev pub without_first : Device → Device
 without_first d = record { held = d.held; round = d.round; trash = drop 1 d.trash; pull = d.pull; rules = d.rules; faults = d.faults }
 
+abbrev pub without_lists : Device → Device
+without_lists d = record { held = d.held; round = d.round; trash = []; pull = []; rules = d.rules; faults = d.faults }
+
 -- a device that was opened: lists empty, the round is the note
 pub record IsOpened (told : Option (List (Name × Stored))) (noted : Option ℕ) (given : DeviceRules) (d : Device) : Type 0 where
   pub held : d.held ≡ told

@@ -2,6 +2,8 @@
 #![tactic(auto)]
 
 mod index;
+#[cfg(test)]
+mod tests;
 mod volume;
 
 pub use volume::{OpenError, Volume};

@@ -5,7 +5,7 @@ ghost use Rattle.keep_event.specs.Device as machine;
 ghost use Rattle.keep_event.specs.Store as store;
 ghost use Rattle.keep_event.specs.Store.{find, size_of, sized};
 ghost use Rattle.std.specs.List.{find as list_find, last_or, filter};
-ghost use Rattle.keep_volume.specs.Calls.{IsLine, IsLineAnyway, IsExactly, HasReadOnly, HasStale, HasIdle, IsReopened, state_of, IsStoreCall, IsItem, Device, over, without_first, IsOpened, IsGivenBack};
+ghost use Rattle.keep_volume.specs.Calls.{IsLine, IsLineAnyway, IsExactly, HasReadOnly, HasStale, HasIdle, IsReopened, state_of, IsStoreCall, IsItem, Device, over, without_first, without_lists, IsOpened, IsGivenBack};
 ghost use Rattle.keep_store.specs.Causes.{HasStoreCause};
 
 use crate::index::Index;
@@ -19,13 +19,14 @@ use std::alloc::Global;
 use std::collections::VecDeque;
 use std::marker::Model;
 
-/// Why a volume was not opened, with its store.
+/// Why a volume was not opened, with its store as it was.
+#[derive(Drop)]
 pub enum OpenError<S> {
     StoreFault { store: S },
     NoMemory { store: S },
 }
 
-/// A device.
+/// A device: replicas, trashed copies and the kept round in a store, and beside it the two lists, the rules, and what is remembered of the store, so that most calls needn't ask it. It is seen as what the store tells, the round, the lists, the rules and the store's count of faults.
 #[derive(Drop)]
 pub struct Volume<S: Store> {
     store: S,
@@ -60,7 +61,8 @@ fn replica(digest: Digest) -> Name
 }
 
 impl<S: Store> Volume<S> {
-    /// Opens a device over its store.
+    /// Opens a device over its store: empty lists, and the store's note for its round. It makes two calls of the store, `note` and then `names_from`.
+    /// Condition: trashed copies are kept for at most 10^17 nanoseconds. After an error the store comes back as it was.
     pub fn open(alloc: Global, store: S, rules: DeviceRules) -> Result<Volume<S>, OpenError<S>>
         requires { rules.trash_life ≤ 100000000000000000 }
         ensures opened { IfOk result (λ v. IsOpened (S.held store) (S.noted store) rules v) }
@@ -91,7 +93,7 @@ impl<S: Store> Volume<S> {
         })
     }
 
-    /// Gives the store back.
+    /// Gives the store back. A device that is opened over it is this one after a restart.
     pub fn into_store(self) -> S
         ensures held { S.held result ≡ self.held }
         ensures faults { S.faults result ≡ self.faults }
@@ -109,6 +111,306 @@ impl<S: Store> Volume<S> {
             alloc: _,
         } = self;
         store
+    }
+
+    /// Whether nothing is kept: no replica, no trashed copy, empty lists, and no round yet.
+    pub fn is_empty(&self) -> bool
+        ensures told { IfSome (state_of self.now) (λ s. IsTrue result ↔ (s ≡ machine.initial)) }
+        ensures lists { IsTrue result → (self.now.round ≡ 0) × (self.now.trash ≡ []) × (self.now.pull ≡ []) }
+    {
+        if self.round != 0 || !self.index.is_empty() {
+            return false;
+        }
+        if self.trash_done < self.trash.len() {
+            return false;
+        }
+        self.pull.is_empty()
+    }
+
+    /// The first item of the pull list, which stays there.
+    pub fn next_pull(&self) -> Option<&PullItem>
+        ensures { option_copied result ≡ slice_get self.now.pull 0 }
+    {
+        self.pull.front()
+    }
+
+    /// Does the call that the query names. The reading is one of the clock, in nanoseconds since 1970 and below 4·10^18.
+    /// Every call answers by the machine's line of its query on what the store tells. StoreFault comes in its place only where the store's count of faults rose, and then nothing has changed, nor has anything after NoMemory. A list is taken as a copy here.
+    pub fn step(&mut self, reading: u64, query: &DeviceQuery) -> Result<DeviceAnswer, NoMemory>
+        requires { reading < 4000000000000000000 }
+        ensures line { IsLine (machine.step self.old.rules reading query.now) self.old self.new result }
+        ensures may_fault { result ≡ Ok DeviceAnswer.StoreFault → machine.may_fault query.now ≡ true }
+    {
+        match query {
+            DeviceQuery::CompareTouch { block, token } => {
+                self.compare_touch(reading, block, *token)
+            }
+            DeviceQuery::Write { block, token } => self.write(reading, block, *token),
+            DeviceQuery::Fetch { digest } => self.fetch(reading, digest),
+            DeviceQuery::Touch { digest, token } => self.touch(reading, digest, *token),
+            DeviceQuery::Clear { round } => self.clear(reading, *round),
+            DeviceQuery::Accept { round, lists } => self.accept_copy(reading, *round, lists),
+            DeviceQuery::Page { round, prefix } => self.page(reading, *round, prefix.as_slice()),
+            DeviceQuery::TrashNext => self.trash_next(reading),
+            DeviceQuery::PullNext => self.pull_next(reading),
+            DeviceQuery::Untrash { digest } => self.untrash(reading, digest),
+            DeviceQuery::EmptyNext => self.empty_next(reading),
+            DeviceQuery::Restart => self.restart(reading),
+        }
+    }
+
+    /// Where the device has the block, its time becomes the greater of its own and the reading. The token is that of the client to whom an answer Touched issues a signature; it has no part in what is done. On a writable device the first call of the store is a `get` of the replica.
+    pub fn compare_touch(
+        &mut self,
+        reading: u64,
+        block: &Block,
+        _token: Option<TokenId>,
+    ) -> Result<DeviceAnswer, NoMemory>
+        ensures line { IsLine (machine.compare_touch self.old.rules block.now reading) self.old self.new result }
+        ensures read_only { HasReadOnly self.old self.new result }
+    {
+        if self.rules.read_only {
+            return Ok(DeviceAnswer::ReadOnly);
+        }
+        let name = replica(block.digest());
+        let stored = match self.stored(&name) {
+            Ok(Some(stored)) => stored,
+            Ok(None) => return Ok(DeviceAnswer::Absent),
+            Err(StoreError::Failed) => return Ok(DeviceAnswer::StoreFault),
+            Err(StoreError::NoMemory) => return Err(NoMemory),
+        };
+        if stored.bytes.as_slice() != block.bytes() {
+            return Ok(other_bytes(block, stored.bytes.as_slice()));
+        }
+        let mtime = stored.mtime.max(reading);
+        match self.renew(&name, mtime) {
+            Ok(_) => Ok(DeviceAnswer::Touched { mtime }),
+            Err(_) => Ok(DeviceAnswer::StoreFault),
+        }
+    }
+
+    /// The same, and the block is written where the device doesn't have it, or has it corrupt: with the greater of the corrupt replica's time and the reading, and only where the bytes of all replicas and trashed copies stay within the capacity.
+    pub fn write(
+        &mut self,
+        reading: u64,
+        block: &Block,
+        _token: Option<TokenId>,
+    ) -> Result<DeviceAnswer, NoMemory>
+        ensures line { IsLine (machine.write self.old.rules block.now reading) self.old self.new result }
+        ensures read_only { HasReadOnly self.old self.new result }
+    {
+        if self.rules.read_only {
+            return Ok(DeviceAnswer::ReadOnly);
+        }
+        let name = replica(block.digest());
+        let stored = match self.stored(&name) {
+            Ok(Some(stored)) => stored,
+            Ok(None) => return self.place(reading, block),
+            Err(StoreError::Failed) => return Ok(DeviceAnswer::StoreFault),
+            Err(StoreError::NoMemory) => return Err(NoMemory),
+        };
+        let mtime = stored.mtime.max(reading);
+        if stored.bytes.as_slice() != block.bytes() {
+            if digest_of(stored.bytes.as_slice()) == block.digest() {
+                return Ok(DeviceAnswer::Collision);
+            }
+            return self.place(mtime, block);
+        }
+        match self.renew(&name, mtime) {
+            Ok(_) => Ok(DeviceAnswer::Written { mtime }),
+            Err(_) => Ok(DeviceAnswer::StoreFault),
+        }
+    }
+
+    /// The bytes of the replica, where their MD5 is the digest. The reading has no part in it.
+    pub fn fetch(&mut self, _reading: u64, digest: &Digest) -> Result<DeviceAnswer, NoMemory>
+        ensures { IsLine (machine.fetch digest.now) self.old self.new result }
+    {
+        let name = replica(*digest);
+        let stored = match self.stored(&name) {
+            Ok(Some(stored)) => stored,
+            Ok(None) => return Ok(DeviceAnswer::Absent),
+            Err(StoreError::Failed) => return Ok(DeviceAnswer::StoreFault),
+            Err(StoreError::NoMemory) => return Err(NoMemory),
+        };
+        let found = digest_of(stored.bytes.as_slice());
+        if found != *digest {
+            return Ok(DeviceAnswer::Corrupt { found });
+        }
+        Ok(DeviceAnswer::Block {
+            bytes: stored.bytes,
+        })
+    }
+
+    /// The replica's time becomes the greater of its own and the reading, without a look at its bytes. It takes no memory.
+    pub fn touch(
+        &mut self,
+        reading: u64,
+        digest: &Digest,
+        _token: Option<TokenId>,
+    ) -> Result<DeviceAnswer, NoMemory>
+        ensures line { IsLine (machine.touch self.old.rules digest.now reading) self.old self.new result }
+        ensures read_only { HasReadOnly self.old self.new result }
+        ensures sure { IsOk result }
+    {
+        if self.rules.read_only {
+            return Ok(DeviceAnswer::ReadOnly);
+        }
+        let name = replica(*digest);
+        let Some(known) = self.known(&name) else {
+            return Ok(DeviceAnswer::Absent);
+        };
+        let mtime = known.mtime.max(reading);
+        match self.renew(&name, mtime) {
+            Ok(_) => Ok(DeviceAnswer::Touched { mtime }),
+            Err(_) => Ok(DeviceAnswer::StoreFault),
+        }
+    }
+
+    /// Keeps the round and empties both lists, unless the round is below the kept one. It takes no memory.
+    pub fn clear(&mut self, _reading: u64, round: u64) -> Result<DeviceAnswer, NoMemory>
+        ensures line { IsLine (machine.clear round) self.old self.new result }
+        ensures anyway { IsLineAnyway (machine.clear round) self.old self.new result }
+        ensures sure { IsOk result }
+    {
+        if round < self.round {
+            return Ok(DeviceAnswer::Stale { held: self.round });
+        }
+        if self.store.set_note(round).is_err() {
+            return Ok(DeviceAnswer::StoreFault);
+        }
+        self.round = round;
+        self.drop_lists();
+        Ok(DeviceAnswer::Cleared)
+    }
+
+    /// Takes the lists of exactly the kept round, in the place of those it has. It takes no memory, and no call of the store.
+    pub fn accept(
+        &mut self,
+        _reading: u64,
+        round: u64,
+        lists: Lists,
+    ) -> Result<DeviceAnswer, NoMemory>
+        ensures line { IsLine (machine.accept round lists) self.old self.new result }
+        ensures exact { IsExactly (machine.accept round lists) self.old self.new result }
+        ensures no_fault { result ≡ Ok DeviceAnswer.StoreFault → ⊥ }
+        ensures sure { IsOk result }
+    {
+        if round != self.round {
+            return Ok(DeviceAnswer::Stale { held: self.round });
+        }
+        let trash = lists.trash.len() as u64;
+        let pull = lists.pull.len() as u64;
+        self.trash = lists.trash.into_vec();
+        self.trash_done = 0;
+        self.pull = VecDeque::from(lists.pull.into_vec());
+        Ok(DeviceAnswer::Accepted { trash, pull })
+    }
+
+    /// The replicas whose digits begin with the prefix, ascending, for exactly the kept round. Their place is found by halves.
+    pub fn page(
+        &mut self,
+        _reading: u64,
+        round: u64,
+        prefix: &[u8],
+    ) -> Result<DeviceAnswer, NoMemory>
+        ensures line { IsLine (machine.page prefix.now round) self.old self.new result }
+        ensures stale { HasStale round self.old self.new result }
+    {
+        if self.round != round {
+            return Ok(DeviceAnswer::Stale { held: self.round });
+        }
+        let entries = self.index.page(self.alloc, prefix)?;
+        Ok(DeviceAnswer::Page {
+            entries: Items::of(entries),
+        })
+    }
+
+    /// Takes the first item of the trash list. The replica becomes a trashed copy where its time is the item's, and the reading is above that time and the grace; the copy is kept until the reading and the trash life. It takes no memory. After StoreFault the item is still the first.
+    /// Condition: the reading is below 4·10^18.
+    pub fn trash_next(&mut self, reading: u64) -> Result<DeviceAnswer, NoMemory>
+        requires { reading < 4000000000000000000 }
+        ensures line { IsLine (machine.trash_next self.old.rules reading) self.old self.new result }
+        ensures idle { HasIdle self.old self.new result }
+        ensures sure { IsOk result }
+    {
+        let Some(item) = self.first_trash() else {
+            return Ok(DeviceAnswer::Idle);
+        };
+        match self.trash_item(reading, item) {
+            Ok(answer) => {
+                self.advance();
+                Ok(answer)
+            }
+            Err(_) => Ok(DeviceAnswer::StoreFault),
+        }
+    }
+
+    /// Takes the first item of the pull list. It takes no memory, and no call of the store.
+    pub fn pull_next(&mut self, _reading: u64) -> Result<DeviceAnswer, NoMemory>
+        ensures line { IsLine machine.pull_next self.old self.new result }
+        ensures exact { IsExactly machine.pull_next self.old self.new result }
+        ensures no_fault { result ≡ Ok DeviceAnswer.StoreFault → ⊥ }
+        ensures sure { IsOk result }
+    {
+        let Some(item) = self.pull.pop_front() else {
+            return Ok(DeviceAnswer::Idle);
+        };
+        Ok(DeviceAnswer::Pull { item })
+    }
+
+    /// The trashed copy with the greatest deadline becomes the replica again, where there is none, with the greater of its own time and the reading. It takes no memory.
+    pub fn untrash(&mut self, reading: u64, digest: &Digest) -> Result<DeviceAnswer, NoMemory>
+        ensures line { IsLine (machine.untrash self.old.rules digest.now reading) self.old self.new result }
+        ensures read_only { HasReadOnly self.old self.new result }
+        ensures sure { IsOk result }
+    {
+        if self.rules.read_only {
+            return Ok(DeviceAnswer::ReadOnly);
+        }
+        let name = replica(*digest);
+        if let Some(known) = self.known(&name) {
+            return Ok(DeviceAnswer::Present { mtime: known.mtime });
+        }
+        let Some((copy, sized)) = self.last_copy(digest) else {
+            return Ok(DeviceAnswer::NoTrash);
+        };
+        let mtime = sized.mtime.max(reading);
+        match self.rename(&copy, &name, mtime) {
+            Ok(_) => Ok(DeviceAnswer::Back { mtime }),
+            Err(_) => Ok(DeviceAnswer::StoreFault),
+        }
+    }
+
+    /// Removes the first trashed copy, by digest and deadline, whose deadline is below the reading. It takes no memory, and goes on where the last such call came to.
+    pub fn empty_next(&mut self, reading: u64) -> Result<DeviceAnswer, NoMemory>
+        ensures line { IsLine (machine.empty_next self.old.rules reading) self.old self.new result }
+        ensures read_only { HasReadOnly self.old self.new result }
+        ensures sure { IsOk result }
+    {
+        if self.rules.read_only {
+            return Ok(DeviceAnswer::ReadOnly);
+        }
+        let Some(name) = self.first_due(reading) else {
+            return Ok(DeviceAnswer::Idle);
+        };
+        let digest = name.digest;
+        let deadline = name.deadline.unwrap_or(0);
+        match self.remove(&name) {
+            Ok(_) => Ok(DeviceAnswer::Emptied { digest, deadline }),
+            Err(_) => Ok(DeviceAnswer::StoreFault),
+        }
+    }
+
+    /// Empties both lists and keeps the round. It takes no memory, and no call of the store.
+    pub fn restart(&mut self, _reading: u64) -> Result<DeviceAnswer, NoMemory>
+        ensures line { IsLine machine.restart self.old self.new result }
+        ensures exact { IsExactly machine.restart self.old self.new result }
+        ensures no_fault { result ≡ Ok DeviceAnswer.StoreFault → ⊥ }
+        ensures sure { IsOk result }
+    {
+        self.drop_lists();
+        Ok(DeviceAnswer::Restarted)
     }
 
     // Sets the time of what has the name.
@@ -154,60 +456,6 @@ impl<S: Store> Volume<S> {
         self.index.get(name)
     }
 
-    pub fn touch(
-        &mut self,
-        reading: u64,
-        digest: &Digest,
-        _token: Option<TokenId>,
-    ) -> Result<DeviceAnswer, NoMemory>
-        ensures line { IsLine (machine.touch self.old.rules digest.now reading) self.old self.new result }
-        ensures read_only { HasReadOnly self.old self.new result }
-        ensures sure { IsOk result }
-    {
-        if self.rules.read_only {
-            return Ok(DeviceAnswer::ReadOnly);
-        }
-        let name = replica(*digest);
-        let Some(sized) = self.known(&name) else {
-            return Ok(DeviceAnswer::Absent);
-        };
-        let mtime = sized.mtime.max(reading);
-        match self.renew(&name, mtime) {
-            Ok(_) => Ok(DeviceAnswer::Touched { mtime }),
-            Err(_) => Ok(DeviceAnswer::StoreFault),
-        }
-    }
-
-    pub fn clear(&mut self, _reading: u64, round: u64) -> Result<DeviceAnswer, NoMemory>
-        ensures line { IsLine (machine.clear round) self.old self.new result }
-        ensures anyway { IsLineAnyway (machine.clear round) self.old self.new result }
-        ensures sure { IsOk result }
-    {
-        if round < self.round {
-            return Ok(DeviceAnswer::Stale { held: self.round });
-        }
-        if self.store.set_note(round).is_err() {
-            return Ok(DeviceAnswer::StoreFault);
-        }
-        self.round = round;
-        self.trash.clear();
-        self.trash_done = 0;
-        self.pull.clear();
-        Ok(DeviceAnswer::Cleared)
-    }
-
-    pub fn restart(&mut self, _reading: u64) -> Result<DeviceAnswer, NoMemory>
-        ensures line { IsLine machine.restart self.old self.new result }
-        ensures exact { IsExactly machine.restart self.old self.new result }
-        ensures no_fault { result ≡ Ok DeviceAnswer.StoreFault → ⊥ }
-        ensures sure { IsOk result }
-    {
-        self.trash.clear();
-        self.trash_done = 0;
-        self.pull.clear();
-        Ok(DeviceAnswer::Restarted)
-    }
-
     // The first trashed copy whose deadline has passed.
     fn first_due(&mut self, reading: u64) -> Option<Name>
         ensures value { IfSome self.old.held (λ es. result ≡ option_map (λ e. e.0) (list_find (machine.is_due reading) es)) }
@@ -216,111 +464,11 @@ impl<S: Store> Volume<S> {
         self.index.first_due(reading)
     }
 
-    pub fn empty_next(&mut self, reading: u64) -> Result<DeviceAnswer, NoMemory>
-        ensures line { IsLine (machine.empty_next self.old.rules reading) self.old self.new result }
-        ensures read_only { HasReadOnly self.old self.new result }
-        ensures sure { IsOk result }
-    {
-        if self.rules.read_only {
-            return Ok(DeviceAnswer::ReadOnly);
-        }
-        let Some(name) = self.first_due(reading) else {
-            return Ok(DeviceAnswer::Idle);
-        };
-        let digest = name.digest;
-        let deadline = name.deadline.unwrap_or(0);
-        match self.remove(&name) {
-            Ok(_) => Ok(DeviceAnswer::Emptied { digest, deadline }),
-            Err(_) => Ok(DeviceAnswer::StoreFault),
-        }
-    }
-
-    pub fn page(
-        &mut self,
-        _reading: u64,
-        round: u64,
-        prefix: &[u8],
-    ) -> Result<DeviceAnswer, NoMemory>
-        ensures line { IsLine (machine.page prefix.now round) self.old self.new result }
-        ensures stale { HasStale round self.old self.new result }
-    {
-        if round != self.round {
-            return Ok(DeviceAnswer::Stale { held: self.round });
-        }
-        let entries = self.index.page(self.alloc, prefix)?;
-        Ok(DeviceAnswer::Page {
-            entries: Items::of(entries),
-        })
-    }
-
-    /// The first item of the pull list.
-    pub fn next_pull(&self) -> Option<&PullItem>
-        ensures { option_copied result ≡ slice_get self.now.pull 0 }
-    {
-        self.pull.front()
-    }
-
-    pub fn pull_next(&mut self, _reading: u64) -> Result<DeviceAnswer, NoMemory>
-        ensures line { IsLine machine.pull_next self.old self.new result }
-        ensures exact { IsExactly machine.pull_next self.old self.new result }
-        ensures no_fault { result ≡ Ok DeviceAnswer.StoreFault → ⊥ }
-        ensures sure { IsOk result }
-    {
-        let Some(item) = self.pull.pop_front() else {
-            return Ok(DeviceAnswer::Idle);
-        };
-        Ok(DeviceAnswer::Pull { item })
-    }
-
-    pub fn accept(
-        &mut self,
-        _reading: u64,
-        round: u64,
-        lists: Lists,
-    ) -> Result<DeviceAnswer, NoMemory>
-        ensures line { IsLine (machine.accept round lists) self.old self.new result }
-        ensures exact { IsExactly (machine.accept round lists) self.old self.new result }
-        ensures no_fault { result ≡ Ok DeviceAnswer.StoreFault → ⊥ }
-        ensures sure { IsOk result }
-    {
-        if round != self.round {
-            return Ok(DeviceAnswer::Stale { held: self.round });
-        }
-        let trash = lists.trash.len() as u64;
-        let pull = lists.pull.len() as u64;
-        self.trash = lists.trash.into_vec();
-        self.trash_done = 0;
-        self.pull = VecDeque::from(lists.pull.into_vec());
-        Ok(DeviceAnswer::Accepted { trash, pull })
-    }
-
     // The trashed copy of a digest with the greatest deadline.
     fn last_copy(&self, digest: &Digest) -> Option<(Name, Sized)>
         ensures { IfSome self.now.held (λ es. result ≡ option_map sized (machine.last_copy digest.now es)) }
     {
         self.index.last_copy(digest)
-    }
-
-    pub fn untrash(&mut self, reading: u64, digest: &Digest) -> Result<DeviceAnswer, NoMemory>
-        ensures line { IsLine (machine.untrash self.old.rules digest.now reading) self.old self.new result }
-        ensures read_only { HasReadOnly self.old self.new result }
-        ensures sure { IsOk result }
-    {
-        if self.rules.read_only {
-            return Ok(DeviceAnswer::ReadOnly);
-        }
-        let name = replica(*digest);
-        if let Some(known) = self.known(&name) {
-            return Ok(DeviceAnswer::Present { mtime: known.mtime });
-        }
-        let Some((copy, sized)) = self.last_copy(digest) else {
-            return Ok(DeviceAnswer::NoTrash);
-        };
-        let mtime = sized.mtime.max(reading);
-        match self.rename(&copy, &name, mtime) {
-            Ok(_) => Ok(DeviceAnswer::Back { mtime }),
-            Err(_) => Ok(DeviceAnswer::StoreFault),
-        }
     }
 
     // Puts the bytes in the place of what has the name, where there is room for them.
@@ -347,36 +495,13 @@ impl<S: Store> Volume<S> {
         Ok(DeviceAnswer::Written { mtime })
     }
 
-    pub fn write(
-        &mut self,
-        reading: u64,
-        block: &Block,
-        _token: Option<TokenId>,
-    ) -> Result<DeviceAnswer, NoMemory>
-        ensures line { IsLine (machine.write self.old.rules block.now reading) self.old self.new result }
-        ensures read_only { HasReadOnly self.old self.new result }
+    // Empties both lists.
+    fn drop_lists(&mut self)
+        ensures { self.new ≡ without_lists self.old }
     {
-        if self.rules.read_only {
-            return Ok(DeviceAnswer::ReadOnly);
-        }
-        let name = replica(block.digest());
-        let stored = match self.stored(&name) {
-            Ok(Some(stored)) => stored,
-            Ok(None) => return self.place(reading, block),
-            Err(StoreError::Failed) => return Ok(DeviceAnswer::StoreFault),
-            Err(StoreError::NoMemory) => return Err(NoMemory),
-        };
-        let mtime = stored.mtime.max(reading);
-        if stored.bytes.as_slice() != block.bytes() {
-            if digest_of(stored.bytes.as_slice()) == block.digest() {
-                return Ok(DeviceAnswer::Collision);
-            }
-            return self.place(mtime, block);
-        }
-        match self.renew(&name, mtime) {
-            Ok(_) => Ok(DeviceAnswer::Written { mtime }),
-            Err(_) => Ok(DeviceAnswer::StoreFault),
-        }
+        self.trash.clear();
+        self.trash_done = 0;
+        self.pull.clear();
     }
 
     // Takes the first item from the trash list.
@@ -423,114 +548,10 @@ impl<S: Store> Volume<S> {
         })
     }
 
-    pub fn trash_next(&mut self, reading: u64) -> Result<DeviceAnswer, NoMemory>
-        requires { reading < 4000000000000000000 }
-        ensures line { IsLine (machine.trash_next self.old.rules reading) self.old self.new result }
-        ensures idle { HasIdle self.old self.new result }
-        ensures sure { IsOk result }
-    {
-        let Some(item) = self.first_trash() else {
-            return Ok(DeviceAnswer::Idle);
-        };
-        match self.trash_item(reading, item) {
-            Ok(answer) => {
-                self.advance();
-                Ok(answer)
-            }
-            Err(_) => Ok(DeviceAnswer::StoreFault),
-        }
-    }
-
     fn first_trash(&self) -> Option<TrashItem>
         ensures { result ≡ slice_get self.now.trash 0 }
     {
         self.trash.get(self.trash_done).copied()
-    }
-
-    pub fn compare_touch(
-        &mut self,
-        reading: u64,
-        block: &Block,
-        _token: Option<TokenId>,
-    ) -> Result<DeviceAnswer, NoMemory>
-        ensures line { IsLine (machine.compare_touch self.old.rules block.now reading) self.old self.new result }
-        ensures read_only { HasReadOnly self.old self.new result }
-    {
-        if self.rules.read_only {
-            return Ok(DeviceAnswer::ReadOnly);
-        }
-        let name = replica(block.digest());
-        let stored = match self.stored(&name) {
-            Ok(Some(stored)) => stored,
-            Ok(None) => return Ok(DeviceAnswer::Absent),
-            Err(StoreError::Failed) => return Ok(DeviceAnswer::StoreFault),
-            Err(StoreError::NoMemory) => return Err(NoMemory),
-        };
-        if stored.bytes.as_slice() != block.bytes() {
-            return Ok(other_bytes(block, stored.bytes.as_slice()));
-        }
-        let mtime = stored.mtime.max(reading);
-        match self.renew(&name, mtime) {
-            Ok(_) => Ok(DeviceAnswer::Touched { mtime }),
-            Err(_) => Ok(DeviceAnswer::StoreFault),
-        }
-    }
-
-    pub fn fetch(&mut self, _reading: u64, digest: &Digest) -> Result<DeviceAnswer, NoMemory>
-        ensures { IsLine (machine.fetch digest.now) self.old self.new result }
-    {
-        let name = replica(*digest);
-        let stored = match self.stored(&name) {
-            Ok(Some(stored)) => stored,
-            Ok(None) => return Ok(DeviceAnswer::Absent),
-            Err(StoreError::Failed) => return Ok(DeviceAnswer::StoreFault),
-            Err(StoreError::NoMemory) => return Err(NoMemory),
-        };
-        let found = digest_of(stored.bytes.as_slice());
-        if found != *digest {
-            return Ok(DeviceAnswer::Corrupt { found });
-        }
-        Ok(DeviceAnswer::Block {
-            bytes: stored.bytes,
-        })
-    }
-
-    /// Whether nothing is kept: no replica, no trashed copy, empty lists, and no round yet.
-    pub fn is_empty(&self) -> bool
-        ensures told { IfSome (state_of self.now) (λ s. IsTrue result ↔ (s ≡ machine.initial)) }
-        ensures lists { IsTrue result → (self.now.round ≡ 0) × (self.now.trash ≡ []) × (self.now.pull ≡ []) }
-    {
-        if self.round != 0 || !self.index.is_empty() {
-            return false;
-        }
-        if self.trash_done < self.trash.len() {
-            return false;
-        }
-        self.pull.is_empty()
-    }
-
-    /// Does the call that the query names.
-    pub fn step(&mut self, reading: u64, query: &DeviceQuery) -> Result<DeviceAnswer, NoMemory>
-        requires { reading < 4000000000000000000 }
-        ensures line { IsLine (machine.step self.old.rules reading query.now) self.old self.new result }
-        ensures may_fault { result ≡ Ok DeviceAnswer.StoreFault → machine.may_fault query.now ≡ true }
-    {
-        match query {
-            DeviceQuery::CompareTouch { block, token } => {
-                self.compare_touch(reading, block, *token)
-            }
-            DeviceQuery::Write { block, token } => self.write(reading, block, *token),
-            DeviceQuery::Fetch { digest } => self.fetch(reading, digest),
-            DeviceQuery::Touch { digest, token } => self.touch(reading, digest, *token),
-            DeviceQuery::Clear { round } => self.clear(reading, *round),
-            DeviceQuery::Accept { round, lists } => self.accept_copy(reading, *round, lists),
-            DeviceQuery::Page { round, prefix } => self.page(reading, *round, prefix.as_slice()),
-            DeviceQuery::TrashNext => self.trash_next(reading),
-            DeviceQuery::PullNext => self.pull_next(reading),
-            DeviceQuery::Untrash { digest } => self.untrash(reading, digest),
-            DeviceQuery::EmptyNext => self.empty_next(reading),
-            DeviceQuery::Restart => self.restart(reading),
-        }
     }
 
     // Accepts a copy of the lists.

@@ -5,8 +5,8 @@ use Rattle.keep_volume.proofs.Sizes.{page-told}
 use Rattle.keep_volume.proofs.Machine.{page-stale, page-done}
 use Rattle.keep_volume.proofs.volume.Volume.page.Goals as goal
 
-pub returns-then-round-self-clause-line : goal.returns-then-round-self-clause-line
-returns-then-round-self-clause-line g c = rw (← c.self.view_is) (stays-line _ _ (Stale c.self.inside.round) (told-all (g.S.Store.held c.self.inside.store) (λ es. page-stale c.args.prefix.now c.args.round _ (search rules))) (λ e. cc e))
+pub returns-then-self-round-clause-line : goal.returns-then-self-round-clause-line
+returns-then-self-round-clause-line g c = rw (← c.self.view_is) (stays-line _ _ (Stale c.self.inside.round) (told-all (g.S.Store.held c.self.inside.store) (λ es. page-stale c.args.prefix.now c.args.round _ (search rules))) (λ e. cc e))
 
 pub returns-clause-line : goal.returns-clause-line
 returns-clause-line g c = rw (← c.self.view_is, c.of.ensures, c.in_ok-entries.ensures)
