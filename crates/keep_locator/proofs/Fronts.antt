@@ -1,10 +1,10 @@
 -- The longest front of a text that begins some locator.
-use Rattle.std.proofs.Common.{◌≡◌, ℕ, zero, suc, ◌+◌, ◌<◌, ◌≤◌, min, Bool, true, false, ◌||◌, ◌⊎◌, inl, inr, List, ◌++◌, length, take, drop, replicate, if◌then◌else◌, refl, sym, ap, ◌∙◌, arith, zero-add}
+use Rattle.std.proofs.Common.{◌≡◌, ℕ, zero, suc, ◌+◌, ◌<◌, ◌≤◌, Bool, true, false, inl, inr, List, ◌++◌, length, take, drop, if◌then◌else◌, refl, sym, ap, ◌∙◌, arith, zero-add}
 use Rattle.std.specs.Prelude.{codes}
 use Rattle.std.proofs.lemmas.Bool.{or_cases, or_left, or_right, false_from_ne_true, cases_eq}
 use Rattle.std.proofs.lemmas.List.{length-take-le}
 use Rattle.keep_spec.specs.Locator.{is_locator, BeginsLocator, IsLongestFront, begins_locator, greatest, locator_front}
-use Rattle.keep_locator.proofs.Machine.{digits, accepts, advance, advance-take, advance-le, advance-accepted, front-completed, least}
+use Rattle.keep_locator.proofs.Machine.{digits, advance, advance-take, advance-le, advance-accepted, front-completed, least}
 use Rattle.keep_locator.proofs.Grammar.{accepts-start}
 
 -- how far a text goes

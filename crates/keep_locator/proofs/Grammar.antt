@@ -1,17 +1,16 @@
 -- What is accepted a byte at a time is just what is a locator.
-use Rattle.std.proofs.Common.{◌≡◌, ℕ, zero, suc, ◌+◌, ◌-◌, ◌<◌, ◌≤◌, Bool, true, false, not, cond, ◌&&◌, nat_lt, nat_le, ◌==◌, ◌⊎◌, inl, inr, List, [], ◌∷◌, ◌++◌, length, take, drop, get_or, Option, Some, None, unwrap_or, if◌then◌else◌, refl, sym, ap, ◌∙◌, arith, zero-add}
+use Rattle.std.proofs.Common.{◌≡◌, ℕ, zero, suc, ◌+◌, ◌<◌, ◌≤◌, Bool, true, false, not, cond, ◌&&◌, nat_lt, nat_le, ◌==◌, inl, inr, List, [], ◌∷◌, length, take, drop, get_or, Option, Some, None, unwrap_or, if◌then◌else◌, refl, sym, ap, ◌∙◌, arith, zero-add}
 use Rattle.std.specs.Char.{is_ascii_digit, is_ascii_uppercase}
 use Rattle.std.specs.List.{list_all, prefix_len, position_or_len, onto_first}
 use Rattle.std.specs.Option.{option_map}
-use Rattle.std.proofs.lemmas.Bool.{cases_Bool, cases_lt, lt-ltb, le-ltb, le-leb, lt-leb, eqb-true, eq-eqb, ne_eqb, and_left, and_right, and_from}
+use Rattle.std.proofs.lemmas.Bool.{cases_Bool, cases_lt, lt-ltb, le-ltb, lt-leb, eqb-true, ne_eqb, and_left, and_right, and_from}
 use Rattle.std.proofs.lemmas.Bool.Decides.{nat_tests}
 use Rattle.std.proofs.lemmas.List.{drop-drop, nil_from_length}
 use Rattle.std.proofs.lemmas.List.Folds.{length-prefix_len}
 use Rattle.keep_spec.specs.Digest.{is_lower_digit, is_digest}
 use Rattle.keep_spec.specs.Locator.{is_hint_character, is_hint, cut_before_plus, is_number, size_digits, hints, is_locator}
-use Rattle.keep_locator.specs.Places.{place_after}
 use Rattle.keep_locator.specs.declared.place.Place.{Place}
-use Rattle.keep_locator.specs.declared.place.Place.TheVariants.{Size, Plus, Hint}
+use Rattle.keep_locator.specs.declared.place.Place.TheVariants.{Plus, Hint}
 use Rattle.keep_locator.proofs.Machine.{State, digits, counted, placed, step, accepts, accepts-go, accepts-stop}
 
 and_assoc : (a b c : Bool) → (a && (b && c)) ≡ ((a && b) && c)

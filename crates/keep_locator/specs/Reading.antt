@@ -1,5 +1,5 @@
 -- What reading a locator answers.
-use Rattle.std.specs.Prelude.{◌≡◌, ℕ, ◌+◌, Bool, true, List, length, Result, Ok, Err, if◌then◌else◌}
+use Rattle.std.specs.Prelude.{◌≡◌, ℕ, ◌+◌, true, List, length, Result, Ok, Err, if◌then◌else◌}
 use Rattle.keep_spec.specs.Locator.{is_locator, size, size_digits, locator_front}
 use Rattle.keep_locator.specs.declared.locator.BadLocator.{BadLocator}
 

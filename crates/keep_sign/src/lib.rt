@@ -4,6 +4,8 @@
 mod laws;
 mod mac;
 mod signature;
+#[cfg(test)]
+mod tests;
 mod text;
 mod verification;
 

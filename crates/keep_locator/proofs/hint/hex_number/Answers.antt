@@ -1,5 +1,4 @@
-use Rattle.std.proofs.Common.{◌≡◌, get_or, true, arith, sym, ap, ◌∙◌}
-use Rattle.keep_spec.specs.Digest.{is_lower_digit}
+use Rattle.std.proofs.Common.{get_or, arith}
 use Rattle.keep_locator.proofs.HintText.{hex-take-more, sixteen-suc, sixteen-le, lower-value, all_at}
 use Rattle.keep_locator.proofs.hint.hex_number.Goals as goal
 

@@ -1,4 +1,4 @@
-use Rattle.std.proofs.Common.{◌≡◌, ◌≤◌, drop, arith, sym, ap, ◌∙◌}
+use Rattle.std.proofs.Common.{drop, arith, sym, ◌∙◌}
 use Rattle.std.proofs.lemmas.List.{length-take}
 use Rattle.keep_locator.proofs.HintText.{permission_parts, permission_read}
 use Rattle.keep_locator.proofs.hint.read_permission.Goals as goal

@@ -1,4 +1,4 @@
-use Rattle.std.proofs.Common.{◌≡◌, sym}
+use Rattle.std.proofs.Common.{sym}
 use Rattle.keep_locator.proofs.Joined.{joined, own_parts, joined_whole, rest-is}
 use Rattle.keep_locator.proofs.laws.locators_are_joined_parts.Goals as goal
 

@@ -1,4 +1,4 @@
-use Rattle.std.proofs.Common.{arith, ℕ, ◌<◌, bit_xor, get_or}
+use Rattle.std.proofs.Common.{arith}
 use Rattle.keep_sign.proofs.Pads.{padded_is}
 use Rattle.keep_sign.proofs.mac.padded.Goals as goal
 

@@ -1,4 +1,4 @@
-use Rattle.std.proofs.Common.{◌≡◌, sym, ◌∙◌}
+use Rattle.std.proofs.Common.{sym, ◌∙◌}
 use Rattle.keep_sign.proofs.TokenText.{signed-none, signed-some}
 use Rattle.keep_sign.proofs.text.push_signed.Goals as goal
 

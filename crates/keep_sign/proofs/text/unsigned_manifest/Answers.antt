@@ -1,5 +1,5 @@
-use Rattle.std.proofs.Common.{◌≡◌, ◌∙◌}
-use Rattle.keep_spec.specs.SignedText.{signed, unsigned}
+use Rattle.std.proofs.Common.{◌∙◌}
+use Rattle.keep_spec.specs.SignedText.{unsigned}
 use Rattle.keep_sign.proofs.TokenText.{all-through}
 use Rattle.keep_sign.proofs.text.unsigned_manifest.Goals as goal
 

@@ -1,5 +1,5 @@
 use Rattle.std.proofs.Common.{◌≡◌, ◌++◌, length}
-use Rattle.keep_spec.specs.SignedText.{signed, unsigned, with_locators}
+use Rattle.keep_spec.specs.SignedText.{unsigned, with_locators}
 use Rattle.keep_sign.proofs.text.unsigned_manifest.Given as goal
 
 abbrev pub invariant-loop-part : goal.invariant-loop-part

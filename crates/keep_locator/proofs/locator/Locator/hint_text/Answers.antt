@@ -1,4 +1,4 @@
-use Rattle.std.proofs.Common.{◌≡◌, ◌-◌, drop, arith, sym, ap, ◌∙◌}
+use Rattle.std.proofs.Common.{drop, arith, ap, ◌∙◌}
 use Rattle.std.proofs.lemmas.List.{take_rest}
 use Rattle.keep_spec.specs.Locator.{cut_before_plus, hints}
 use Rattle.keep_spec.proofs.LocatorText.{locator_parts}

@@ -1,4 +1,4 @@
-use Rattle.std.proofs.Common.{◌≡◌, true, sym, ap, ◌∙◌}
+use Rattle.std.proofs.Common.{sym, ◌∙◌}
 use Rattle.std.proofs.lemmas.Option.{cond_some}
 use Rattle.keep_spec.specs.Locator.{is_permission_hint, permission_of}
 use Rattle.keep_locator.proofs.HintText.{found_only, found_second}

@@ -1,7 +1,5 @@
-use Rattle.std.proofs.Common.{◌≡◌, ◌+◌, ◌-◌, ◌==◌, true, false, min, None, length, drop, get_or, arith, refl, sym, ap, ◌∙◌}
+use Rattle.std.proofs.Common.{sym, ap, ◌∙◌}
 use Rattle.std.proofs.lemmas.List.{take_rest}
-use Rattle.std.specs.Char.{is_ascii_digit}
-use Rattle.std.specs.List.{prefix_len}
 use Rattle.std.specs.Option.{option_map}
 use Rattle.keep_locator.proofs.Machine.{placed, is_final}
 use Rattle.keep_locator.proofs.TextRead.{refused_answer, refused_longest, reads-front, reads-behind, reads-hints, refused-digits, refused-plus, refused-size, refused-step, refused-whole, accepted-end, accepted_answer, final-place, kept}

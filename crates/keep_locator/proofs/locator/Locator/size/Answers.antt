@@ -1,4 +1,4 @@
-use Rattle.std.proofs.Common.{◌≡◌, arith}
+use Rattle.std.proofs.Common.{arith}
 use Rattle.keep_spec.proofs.LocatorText.{size-lt}
 use Rattle.keep_locator.proofs.locator.Locator.size.Goals as goal
 

@@ -1,4 +1,4 @@
-use Rattle.std.proofs.Common.{◌≡◌, ◌++◌, ap, ◌∙◌}
+use Rattle.std.proofs.Common.{◌++◌, ap, ◌∙◌}
 use Rattle.sha1.specs.Sha1.{sha1}
 use Rattle.keep_spec.specs.Sign.{padded_key, short_key, hmac}
 use Rattle.keep_sign.proofs.mac.MacState.finalize.Goals as goal

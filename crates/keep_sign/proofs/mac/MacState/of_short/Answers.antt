@@ -1,4 +1,4 @@
-use Rattle.std.proofs.Common.{◌≡◌, [], ◌++◌, List, ℕ, arith, sym, ap, ◌∙◌, subst}
+use Rattle.std.proofs.Common.{[], List, ℕ, sym, ◌∙◌, subst}
 use Rattle.std.proofs.lemmas.List.{append-nil}
 use Rattle.sha1.specs.Sha1.{Holds}
 use Rattle.keep_spec.specs.Sign.{padded_key}
