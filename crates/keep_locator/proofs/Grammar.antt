@@ -37,7 +37,7 @@ choose-placed f false p = refl
 
 -- Hints.
 
-abbrev not_plus : ℕ → Bool
+abbrev pub not_plus : ℕ → Bool
 not_plus c = not (c == 43)
 
 abbrev are_hints : List ℕ → Bool
@@ -50,7 +50,7 @@ prefix_len-no : (p : ℕ → Bool) (x : ℕ) (xs : List ℕ) → p x ≡ false �
 prefix_len-no p x xs fails = ap (λ b. cond b (1 + prefix_len p xs) 0) fails
 
 -- the first piece goes up to the next plus
-cut-cons : (x : ℕ) (ys : List ℕ) → cut_before_plus (x ∷ ys) ≡ (x ∷ take (prefix_len not_plus ys) ys) ∷ cut_before_plus (drop (prefix_len not_plus ys) ys)
+pub cut-cons : (x : ℕ) (ys : List ℕ) → cut_before_plus (x ∷ ys) ≡ (x ∷ take (prefix_len not_plus ys) ys) ∷ cut_before_plus (drop (prefix_len not_plus ys) ys)
 unfolding cut_before_plus
 cut-cons x [] = refl
 cut-cons x (y ∷ ys) =

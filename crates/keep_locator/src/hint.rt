@@ -11,7 +11,7 @@ use keep_spec::{Permission, is_lower_digit};
 // `+A`, 40 digits, `@` and 8 digits.
 const PERMISSION_LEN: usize = 51;
 
-// The first of the hints, and the text behind it; none of an empty text.
+/// Of a text of hints, one behind another, the first, with its plus, and the text behind it; none of an empty text.
 pub fn first_hint(text: &[u8]) -> Option<(&[u8], &[u8])>
     ensures hints { MatchOption result (cut_before_plus text.now ≡ [])
         (λ p. cut_before_plus text.now ≡ p.0.now ∷ cut_before_plus p.1.now) }
@@ -53,8 +53,9 @@ pub fn read_permission(hint: &[u8]) -> Option<Permission>
     })
 }
 
+/// Whether a hint is `+A`, 40 lower-case hexadecimal digits, `@` and 8 more.
 #[tactic(auto, unfolding(keep_spec::specs::Locator::is_permission_hint))]
-fn is_permission_hint(hint: &[u8]) -> bool
+pub fn is_permission_hint(hint: &[u8]) -> bool
     ensures { result ≡ is_permission_hint hint.now }
 {
     hint.len() == PERMISSION_LEN

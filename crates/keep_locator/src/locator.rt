@@ -115,8 +115,8 @@ impl<'a> Locator<'a> {
         Some(hint)
     }
 
-    // The hints, one behind another.
-    fn hint_text(&self) -> &'a [u8]
+    /// The hints, one behind another, each with its plus.
+    pub fn hint_text(&self) -> &'a [u8]
         ensures { cut_before_plus result.now ≡ hints self.now }
     {
         &self.text[self.size_end..]

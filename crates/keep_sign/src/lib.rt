@@ -1,6 +1,18 @@
-//! Signatures of locators.
+//! Signatures of locators: making them, checking them, and texts with other signatures.
 #![tactic(auto)]
 
-mod signing;
+mod laws;
+mod mac;
+mod signature;
+mod text;
+mod verification;
 
-pub use signing::{hmac, sign};
+pub use keep_manifest::BadManifest;
+pub use keep_spec::{Permission, Triple, Unverified};
+pub use laws::{
+    other_signatures_are_invalid, signed_locators_are_valid, unsigned_locators_have_no_permission,
+};
+pub use mac::hmac;
+pub use signature::{hex8, sign};
+pub use text::{sign_manifest, unsigned_manifest};
+pub use verification::verify;

@@ -1,11 +1,10 @@
 -- A portable data hash in text.
-use Rattle.std.proofs.Common.{◌≡◌, ℕ, ◌+◌, ◌-◌, ◌≤◌, List, [], ◌∷◌, ◌++◌, Bool, true, false, ◌==◌, ◌&&◌, Option, Some, None, if◌then◌else◌, refl, sym, ap, ◌∙◌, arith, length, take, drop, replicate, slice_index, append_assoc}
+use Rattle.std.proofs.Common.{◌≡◌, ℕ, ◌+◌, ◌-◌, List, [], ◌∷◌, ◌++◌, true, ◌==◌, ◌&&◌, Some, None, if◌then◌else◌, refl, sym, ap, ◌∙◌, arith, length, take, drop, replicate, slice_index, append_assoc}
 use Rattle.std.proofs.lemmas.Bool.{and_parts, and_from, eqb-true, eq-eqb, false_from_ne_true}
 use Rattle.std.proofs.lemmas.List.{take_at, drop_at, drop-drop, drop-replicate, length-append}
 use Rattle.keep_spec.specs.Digest.{is_digest, bytes_of_digits}
 use Rattle.keep_spec.specs.Locator.{is_number, number}
 use Rattle.keep_spec.specs.Portable.{is_portable, portable_of}
-use Rattle.keep_spec.specs.declared.portable.Portable.{Portable}
 
 -- bytes put over zeros that stand behind a front
 pub put-zeros : (front bytes : List ℕ) (at n : ℕ) → length front ≡ at → take at (front ++ replicate n 0) ++ bytes ++ drop (at + length bytes) (front ++ replicate n 0) ≡ (front ++ bytes) ++ replicate (n - length bytes) 0

@@ -1,4 +1,5 @@
 pub mod Causes
+pub mod Config
 pub mod Digest
 pub mod Json
 pub mod Lines
@@ -8,3 +9,5 @@ pub mod Names
 pub mod Portable
 pub mod Refusals
 pub mod Sign
+pub mod SignedText
+pub mod Uuid

@@ -1,5 +1,5 @@
 -- Locators, as in the Arvados manifest format: a digest, `+` and the size of the block, then hints. That digits of a digest or a signature are in lower case, that a number has at most 19 digits, and that a block of no bytes needs no signature, are this project's rules.
-use Rattle.std.specs.Prelude.{ℕ, zero, suc, ◌+◌, ◌==◌, ◌&&◌, ◌||◌, nat_le, nat_eq, Bool, true, false, ◌≡◌, ◌<◌, ◌≤◌, ⊤, List, [], ◌∷◌, ◌++◌, length, take, drop, filter, take_while, slice_index, codes, replicate, Option, Some, None, if◌then◌else◌}
+use Rattle.std.specs.Prelude.{ℕ, zero, suc, ◌+◌, ◌==◌, ◌&&◌, ◌||◌, nat_le, nat_eq, Bool, true, false, ◌≡◌, ◌<◌, ◌≤◌, List, [], ◌∷◌, ◌++◌, length, take, drop, filter, take_while, slice_index, codes, replicate, Option, Some, None, if◌then◌else◌}
 use Rattle.std.specs.Char.{is_ascii_digit, is_ascii_uppercase, is_ascii_alphanumeric}
 use Rattle.std.specs.List.{list_all, onto_first, concat, starts_with}
 use Rattle.std.specs.Str.{bytes_eq}

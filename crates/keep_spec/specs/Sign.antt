@@ -1,5 +1,5 @@
 -- Signatures of locators. HMAC is that of RFC 2104 over SHA-1; the text that is signed is this project's rule.
-use Rattle.std.specs.Prelude.{ℕ, ◌-◌, ◌+◌, ◌%◌, ◌/◌, ◌*◌, ◌^◌, ◌<◌, ◌==◌, nat_lt, List, [], ◌∷◌, ◌++◌, length, map, replicate, bit_xor, if◌then◌else◌, codes, Option, Some, None, Result, Ok, Err}
+use Rattle.std.specs.Prelude.{ℕ, ◌-◌, ◌*◌, ◌==◌, nat_lt, List, [], ◌∷◌, ◌++◌, length, map, replicate, bit_xor, if◌then◌else◌, Option, Some, None, Result, Ok, Err}
 use Rattle.std.specs.Int.{w32, to_be_bytes}
 use Rattle.std.specs.Str.{bytes_eq}
 use Rattle.sha1.specs.Sha1.{sha1}
@@ -14,13 +14,13 @@ use Rattle.keep_spec.specs.declared.unverified.Unverified.TheVariants.{Missing, 
 abbrev pub padded_key : List ℕ → ℕ → List ℕ
 padded_key key pad = map (λ b. bit_xor b pad) (key ++ replicate (64 - length key) 0)
 
--- HMAC under a key of at most 64 bytes
-unfoldable pub hmac_short : List ℕ → List ℕ → List ℕ
-hmac_short key text = sha1 (padded_key key 0x5c ++ sha1 (padded_key key 0x36 ++ text))
-
 -- a longer key is hashed first
-abbrev pub hmac : List ℕ → List ℕ → List ℕ
-hmac key text = hmac_short (if nat_lt 64 (length key) then sha1 key else key) text
+abbrev pub short_key : List ℕ → List ℕ
+short_key key = if nat_lt 64 (length key) then sha1 key else key
+
+-- HMAC under a key of any length
+unfoldable pub hmac : List ℕ → List ℕ → List ℕ
+hmac key text = sha1 (padded_key (short_key key) 0x5c ++ sha1 (padded_key (short_key key) 0x36 ++ text))
 
 -- the two digits of each byte, most significant first: 8 digits of a number below 2^32
 unfoldable pub hex8 : ℕ → List ℕ

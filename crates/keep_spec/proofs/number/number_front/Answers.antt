@@ -1,4 +1,4 @@
-use Rattle.std.proofs.Common.{◌≡◌, ◌*◌, ◌+◌, ◌^◌, get_or, true, arith, sym, ◌∙◌, ap}
+use Rattle.std.proofs.Common.{◌≡◌, get_or, true, arith, sym, ◌∙◌}
 use Rattle.std.proofs.lemmas.List.Sums.{prefix_len-drop_yes}
 use Rattle.std.specs.Char.{is_ascii_digit}
 use Rattle.keep_spec.proofs.NumberText.{number-take-more, digit-range, ten-suc, ten-le}

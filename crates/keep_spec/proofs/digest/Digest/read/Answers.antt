@@ -1,8 +1,7 @@
-use Rattle.std.proofs.Common.{◌≡◌, ap, sym, ◌∙◌, true, Ok, Some, arith}
+use Rattle.std.proofs.Common.{ap, sym, ◌∙◌, Some}
 use Rattle.std.proofs.lemmas.Result.{MatchResult-at_ok}
-use Rattle.keep_spec.specs.Digest.{is_lower_digit, is_digest, bytes_of_digits}
+use Rattle.keep_spec.specs.Digest.{bytes_of_digits}
 use Rattle.keep_spec.proofs.DigestText.{decode_sized-lower, is_digest-parts, is_digest-from_parts, digest_of-none, digest_of-some}
-use Rattle.keep_spec.proofs.Fronts.{list_all-from_prefix_len}
 use Rattle.keep_spec.proofs.digest.Digest.read.Goals as goal
 use Rattle.keep_spec.proofs.digest.Digest.read.Goals.{then-text-ne-DIGEST_DIGITS-via-then-text-ne-DIGEST_DIGITS, then-text-ne-DIGEST_DIGITS-via-else-text-ne-DIGEST_DIGITS+then-digest_front-ne-DIGEST_DIGITS}
 

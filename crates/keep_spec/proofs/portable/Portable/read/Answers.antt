@@ -1,4 +1,4 @@
-use Rattle.std.proofs.Common.{◌≡◌, ◌∷◌, arith, sym, ap, ◌∙◌, take, drop, length, Some, None, true}
+use Rattle.std.proofs.Common.{arith, sym, ◌∙◌, take, drop}
 use Rattle.std.proofs.lemmas.List.{get_or_past, length-take-le, take_rest}
 use Rattle.std.proofs.lemmas.Option.{none-some}
 use Rattle.keep_spec.proofs.DigestText.{digest_of-some, digest_of_is}

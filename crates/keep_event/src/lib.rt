@@ -1,0 +1,16 @@
+//! Blocks, what devices are asked and answer, the events of a run, and in `specs/` what a store holds and the device machine.
+#![tactic(auto)]
+
+mod block;
+mod device;
+mod event;
+mod lists;
+mod names;
+mod task;
+
+pub use block::{Block, TooLong};
+pub use device::{DeviceAnswer, DeviceQuery, DeviceRules};
+pub use event::{Answer, Event, Journal, Place, Query};
+pub use lists::{Entry, Lists, PullItem, TrashItem};
+pub use names::{Held, Name, Sized, Stored};
+pub use task::{Command, Opening, Outcome, Task, TaskState};

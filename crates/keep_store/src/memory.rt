@@ -1,0 +1,196 @@
+// A store in memory, with a list of the calls that are to fail.
+ghost use Rattle.std.specs.Prelude.{◌≡◌, ℕ, List, Option, Some, None, IfSome, IfOk, OnOk, OnErr, [], option_map, take, map};
+ghost use Rattle.keep_event.specs.Store.{find, put, above, held_of, size_of, AreAscending, stored};
+ghost use Rattle.keep_store.specs.Names.{IsCounted};
+
+use crate::{Failed, NameList, Store, StoreError};
+use keep_event::{Held, Name, Sized, Stored};
+use keep_spec::{Bytes, NoMemory};
+use std::alloc::Global;
+
+/// A store in memory.
+#[derive(Drop)]
+pub struct MemoryStore {
+    names: NameList<Stored>,
+    round: u64,
+    failing: Vec<u64>,
+    calls: u64,
+    faults: u64,
+    alloc: Global,
+}
+
+impl MemoryStore {
+    /// An empty store whose n-th call fails where n is in the list, counted from 1.
+    pub fn new(alloc: Global, failing: Vec<u64>) -> MemoryStore {
+        MemoryStore {
+            names: NameList::new(alloc),
+            round: 0,
+            failing,
+            calls: 0,
+            faults: 0,
+            alloc,
+        }
+    }
+
+    // Whether this call is to fail.
+    fn is_failing(&mut self) -> bool
+        ensures same { (self.new.names.entries ≡ self.old.names.entries) × (self.new.round ≡ self.old.round) }
+        ensures cause { IsCounted self.old.faults self.new.faults result }
+    {
+        self.calls = self.calls.saturating_add(1);
+        if self.failing.contains(&self.calls) {
+            self.faults = self.faults.saturating_add(1);
+            return true;
+        }
+        false
+    }
+}
+
+impl Store for MemoryStore {
+    ghost held = { λ s. Some s.names.entries };
+
+    ghost noted = { λ s. Some s.round };
+
+    ghost faults = { λ s. s.faults };
+
+    fn get(&mut self, name: &Name) -> Result<Option<Stored>, StoreError> {
+        if self.is_failing() {
+            return Err(StoreError::Failed);
+        }
+        match found(self.alloc, &self.names, name) {
+            Ok(stored) => Ok(stored),
+            Err(NoMemory) => Err(StoreError::NoMemory),
+        }
+    }
+
+    fn put(&mut self, name: &Name, mtime: u64, bytes: &[u8]) -> Result<(), StoreError> {
+        if self.is_failing() {
+            return Err(StoreError::Failed);
+        }
+        match kept(self.alloc, &mut self.names, name, mtime, bytes) {
+            Ok(()) => Ok(()),
+            Err(NoMemory) => Err(StoreError::NoMemory),
+        }
+    }
+
+    fn names_from(&mut self, after: Option<Name>, limit: usize) -> Result<Vec<Held>, StoreError> {
+        if self.is_failing() {
+            return Err(StoreError::Failed);
+        }
+        match listed(self.alloc, &self.names, after, limit) {
+            Ok(names) => Ok(names),
+            Err(NoMemory) => Err(StoreError::NoMemory),
+        }
+    }
+
+    fn stat(&mut self, name: &Name) -> Result<Option<Sized>, Failed> {
+        if self.is_failing() {
+            return Err(Failed);
+        }
+        Ok(sized(&self.names, name))
+    }
+
+    fn touch(&mut self, name: &Name, mtime: u64) -> Result<bool, Failed> {
+        if self.is_failing() {
+            return Err(Failed);
+        }
+        Ok(self.names.touch(name, mtime))
+    }
+
+    fn rename(&mut self, from: &Name, to: &Name, mtime: u64) -> Result<bool, Failed> {
+        if self.is_failing() {
+            return Err(Failed);
+        }
+        Ok(self.names.rename(from, to, mtime))
+    }
+
+    fn remove(&mut self, name: &Name) -> Result<bool, Failed> {
+        if self.is_failing() {
+            return Err(Failed);
+        }
+        Ok(self.names.remove(name).is_some())
+    }
+
+    fn note(&mut self) -> Result<u64, Failed> {
+        if self.is_failing() {
+            return Err(Failed);
+        }
+        Ok(self.round)
+    }
+
+    fn set_note(&mut self, round: u64) -> Result<(), Failed> {
+        if self.is_failing() {
+            return Err(Failed);
+        }
+        self.round = round;
+        Ok(())
+    }
+}
+
+// A copy of what the name has.
+pub(crate) fn found(
+    alloc: Global,
+    names: &NameList<Stored>,
+    name: &Name,
+) -> Result<Option<Stored>, NoMemory>
+    ensures { IfOk result (λ o. o ≡ find name.now names.now.entries) }
+{
+    match names.get(name) {
+        Some(stored) => Ok(Some(Stored {
+            mtime: stored.mtime,
+            bytes: stored.bytes.copied(alloc)?,
+        })),
+        None => Ok(None),
+    }
+}
+
+// Gives the name a copy of the bytes.
+pub(crate) fn kept(
+    alloc: Global,
+    names: &mut NameList<Stored>,
+    name: &Name,
+    mtime: u64,
+    bytes: &[u8],
+) -> Result<(), NoMemory>
+    ensures ok { OnOk result (names.new.entries ≡ put name.now (stored mtime bytes.now) names.old.entries) }
+    ensures err { OnErr result (names.new.entries ≡ names.old.entries) }
+{
+    let bytes = Bytes::of(Vec::from_slice(alloc, bytes)?);
+    names.put(name, Stored { mtime, bytes })
+}
+
+pub(crate) fn listed(
+    alloc: Global,
+    names: &NameList<Stored>,
+    after: Option<Name>,
+    limit: usize,
+) -> Result<Vec<Held>, NoMemory>
+    ensures value { IfOk result (λ v. v.items ≡ take limit (map held_of (above after names.now.entries))) }
+    ensures ascending { IfOk result (λ v. AreAscending (map (λ h. h.name) v.items)) }
+{
+    let mut out = Vec::new(alloc);
+    for item in names.above(after.as_ref()) {
+        if out.len() == limit {
+            break;
+        }
+        let held = Held {
+            name: item.0,
+            mtime: item.1.mtime,
+            size: item.1.bytes.len() as u64,
+        };
+        if out.push(held).is_err() {
+            return Err(NoMemory);
+        }
+    }
+    Ok(out)
+}
+
+pub(crate) fn sized(names: &NameList<Stored>, name: &Name) -> Option<Sized>
+    ensures { result ≡ option_map size_of (find name.now names.now.entries) }
+{
+    let stored = names.get(name)?;
+    Some(Sized {
+        mtime: stored.mtime,
+        size: stored.bytes.len() as u64,
+    })
+}

@@ -1,0 +1,81 @@
+// A store in memory that never fails.
+ghost use Rattle.std.specs.Prelude.{◌≡◌, ℕ, Some, []};
+
+use crate::memory::{found, kept, listed, sized};
+use crate::{Failed, NameList, Store, StoreError};
+use keep_event::{Held, Name, Sized, Stored};
+use keep_spec::NoMemory;
+use std::alloc::Global;
+
+/// A store in memory that never fails.
+#[derive(Drop)]
+pub struct SureStore {
+    names: NameList<Stored>,
+    round: u64,
+    alloc: Global,
+}
+
+impl SureStore {
+    /// An empty store with note 0.
+    pub fn new(alloc: Global) -> SureStore {
+        SureStore {
+            names: NameList::new(alloc),
+            round: 0,
+            alloc,
+        }
+    }
+}
+
+impl Store for SureStore {
+    ghost held = { λ s. Some s.names.entries };
+
+    ghost noted = { λ s. Some s.round };
+
+    ghost faults = { λ s. 0 };
+
+    fn get(&mut self, name: &Name) -> Result<Option<Stored>, StoreError> {
+        match found(self.alloc, &self.names, name) {
+            Ok(stored) => Ok(stored),
+            Err(NoMemory) => Err(StoreError::NoMemory),
+        }
+    }
+
+    fn put(&mut self, name: &Name, mtime: u64, bytes: &[u8]) -> Result<(), StoreError> {
+        match kept(self.alloc, &mut self.names, name, mtime, bytes) {
+            Ok(()) => Ok(()),
+            Err(NoMemory) => Err(StoreError::NoMemory),
+        }
+    }
+
+    fn names_from(&mut self, after: Option<Name>, limit: usize) -> Result<Vec<Held>, StoreError> {
+        match listed(self.alloc, &self.names, after, limit) {
+            Ok(names) => Ok(names),
+            Err(NoMemory) => Err(StoreError::NoMemory),
+        }
+    }
+
+    fn stat(&mut self, name: &Name) -> Result<Option<Sized>, Failed> {
+        Ok(sized(&self.names, name))
+    }
+
+    fn touch(&mut self, name: &Name, mtime: u64) -> Result<bool, Failed> {
+        Ok(self.names.touch(name, mtime))
+    }
+
+    fn rename(&mut self, from: &Name, to: &Name, mtime: u64) -> Result<bool, Failed> {
+        Ok(self.names.rename(from, to, mtime))
+    }
+
+    fn remove(&mut self, name: &Name) -> Result<bool, Failed> {
+        Ok(self.names.remove(name).is_some())
+    }
+
+    fn note(&mut self) -> Result<u64, Failed> {
+        Ok(self.round)
+    }
+
+    fn set_note(&mut self, round: u64) -> Result<(), Failed> {
+        self.round = round;
+        Ok(())
+    }
+}

@@ -1,0 +1,113 @@
+-- A device over a store that may tell what it holds.
+use Rattle.std.specs.Prelude.{◌≡◌, ◌≢◌, ℕ, ◌≤◌, List, Option, Some, option_map, IfSome, Result, Ok, Err, ◌⊎◌, ⊤, drop, [], true}
+use Rattle.keep_spec.specs.Causes.{Rose}
+use Rattle.keep_event.specs.Device.{State, Reply, restart}
+use Rattle.keep_event.specs.declared.names.Name.{Name}
+use Rattle.keep_event.specs.declared.names.Stored.{Stored}
+use Rattle.keep_event.specs.declared.lists.TrashItem.{TrashItem}
+use Rattle.keep_event.specs.declared.lists.PullItem.{PullItem}
+use Rattle.keep_event.specs.declared.device.DeviceRules.{DeviceRules}
+use Rattle.keep_event.specs.declared.device.DeviceAnswer.{DeviceAnswer}
+use Rattle.keep_event.specs.declared.device.DeviceAnswer.TheVariants as answers
+use Rattle.keep_volume.specs.declared.volume.OpenError.{OpenError}
+use Rattle.keep_volume.specs.declared.volume.OpenError.TheVariants.{StoreFault, NoMemory}
+use Rattle.keep_spec.specs.declared.memory.NoMemory as memory
+use Rattle.keep_store.specs.declared.store.Failed.{Failed}
+
+-- what callers see of a volume
+pub record Device : Type 0 where
+  pub held : Option (List (Name × Stored))
+  pub round : ℕ
+  pub trash : List TrashItem
+  pub pull : List PullItem
+  pub rules : DeviceRules
+  pub faults : ℕ
+
+abbrev pub state_with : Device → List (Name × Stored) → State
+state_with d es = record { held = es; round = d.round; trash = d.trash; pull = d.pull }
+
+-- the state of the device machine, where the store tells
+abbrev pub state_of : Device → Option State
+state_of d = option_map (state_with d) d.held
+
+-- the machine's line, or a fault of the store that changes nothing
+abbrev pub IsToldLine : (State → Reply) → State → Option State → Result DeviceAnswer memory.NoMemory → Type 0
+IsToldLine line s new (Err e) = new ≡ Some s
+IsToldLine line s new (Ok answer) = ((answer ≡ (line s).answer) × (new ≡ Some (line s).state)) ⊎ ((answer ≡ answers.StoreFault) × (new ≡ Some s))
+
+-- StoreFault has its cause in the store's count
+abbrev pub HasFault : ℕ → ℕ → Result DeviceAnswer memory.NoMemory → Type 0
+HasFault before now (Err e) = ⊤
+HasFault before now (Ok answer) = answer ≡ answers.StoreFault → Rose before now
+
+-- the device over the store after a call that made h of what is told
+abbrev pub over : Device → (List (Name × Stored) → List (Name × Stored)) → ℕ → Device
+over d h faults = record { held = option_map h d.held; round = d.round; trash = d.trash; pull = d.pull; rules = d.rules; faults = faults }
+
+-- a refusal changes nothing, also where the store doesn't tell
+abbrev pub IsKept : Device → Device → Result DeviceAnswer memory.NoMemory → Type 0
+IsKept old new (Err e) = new ≡ over old (λ es. es) new.faults
+IsKept old new (Ok answer) = answer ≡ answers.StoreFault → new ≡ over old (λ es. es) new.faults
+
+pub record IsLine (line : State → Reply) (old new : Device) (result : Result DeviceAnswer memory.NoMemory) : Type 0 where
+  pub told : IfSome (state_of old) (λ s. IsToldLine line s (state_of new) result)
+  pub fault : HasFault old.faults new.faults result
+  pub kept : IsKept old new result
+  pub later : old.faults ≤ new.faults
+  pub rules : new.rules ≡ old.rules
+
+-- the machine's line exactly, but for the list
+abbrev pub IsItem : (State → Reply) → Device → Device → Result DeviceAnswer Failed → Type 0
+IsItem line old new (Ok a) = IfSome (state_of old) (λ s. (a ≡ (line s).answer) × (state_of new ≡ Some (line s).state)) × (old.faults ≤ new.faults) × (new.rules ≡ old.rules) × (new.trash ≡ old.trash) × (a ≡ answers.StoreFault → ⊥)
+IsItem line old new (Err e) = (new ≡ over old (λ es. es) new.faults) × Rose old.faults new.faults × (old.faults ≤ new.faults)
+
+-- a call of the store that fails changes nothing
+abbrev pub IsStoreCall : {A : Type 0} → (List (Name × Stored) → List (Name × Stored)) → Device → Device → Result A Failed → Type 0
+IsStoreCall h old new (Ok a) = (new ≡ over old h new.faults) × (old.faults ≤ new.faults)
+IsStoreCall h old new (Err e) = (new ≡ over old (λ es. es) new.faults) × Rose old.faults new.faults × (old.faults ≤ new.faults)
+
+abbrev pub without_first : Device → Device
+without_first d = record { held = d.held; round = d.round; trash = drop 1 d.trash; pull = d.pull; rules = d.rules; faults = d.faults }
+
+-- a device that was opened: lists empty, the round is the note
+pub record IsOpened (told : Option (List (Name × Stored))) (noted : Option ℕ) (given : DeviceRules) (d : Device) : Type 0 where
+  pub held : d.held ≡ told
+  pub round : IfSome noted (λ n. d.round ≡ n)
+  pub trash : d.trash ≡ []
+  pub pull : d.pull ≡ []
+  pub rules : d.rules ≡ given
+
+-- a store that comes back as it was, and a fault has its cause in its count
+abbrev pub IsGivenBack : {S : Type 0} → Option (List (Name × Stored)) → Option ℕ → ℕ → (S → Option (List (Name × Stored))) → (S → Option ℕ) → (S → ℕ) → OpenError S → Type 0
+IsGivenBack held noted faults h n f (StoreFault s) = (h s ≡ held) × (n s ≡ noted) × Rose faults (f s)
+IsGivenBack held noted faults h n f (NoMemory s) = (h s ≡ held) × (n s ≡ noted) × (faults ≤ f s)
+
+-- the line exactly, whatever the contents are, told or not, and without the store
+pub record IsExactly (line : State → Reply) (old new : Device) (result : Result DeviceAnswer memory.NoMemory) : Type 0 where
+  pub told : (es : List (Name × Stored)) → (result ≡ Ok (line (state_with old es)).answer) × (state_with new es ≡ (line (state_with old es)).state)
+  pub held : new.held ≡ old.held
+  pub faults : new.faults ≡ old.faults
+  pub rules : new.rules ≡ old.rules
+
+-- a line that doesn't read the contents: the same whatever they are, told or not
+abbrev pub IsLineAnyway : (State → Reply) → Device → Device → Result DeviceAnswer memory.NoMemory → Type 0
+IsLineAnyway line old new result = (es : List (Name × Stored)) → IsToldLine line (state_with old es) (Some (state_with new es)) result
+
+-- a device that is read only answers so and stays as it is, told or not, and no other answers so
+pub record HasReadOnly (old new : Device) (result : Result DeviceAnswer memory.NoMemory) : Type 0 where
+  pub given : old.rules.read_only ≡ true → (result ≡ Ok answers.ReadOnly) × (new ≡ old)
+  pub only : result ≡ Ok answers.ReadOnly → old.rules.read_only ≡ true
+
+-- a round other than the kept one is answered Stale, told or not, and no other
+pub record HasStale (round : ℕ) (old new : Device) (result : Result DeviceAnswer memory.NoMemory) : Type 0 where
+  pub given : round ≢ old.round → (result ≡ Ok (answers.Stale old.round)) × (new ≡ old)
+  pub only : (held : ℕ) → result ≡ Ok (answers.Stale held) → round ≢ old.round
+
+-- an empty trash list is answered Idle, told or not, and no other
+pub record HasIdle (old new : Device) (result : Result DeviceAnswer memory.NoMemory) : Type 0 where
+  pub given : old.trash ≡ [] → (result ≡ Ok answers.Idle) × (new ≡ old)
+  pub only : result ≡ Ok answers.Idle → old.trash ≡ []
+
+-- opening the store again leaves what a restart leaves
+abbrev pub IsReopened : Option (List (Name × Stored)) → Option ℕ → Device → Type 0
+IsReopened told noted d = IfSome noted (λ n. (v : Device) → IsOpened told noted d.rules v → state_of v ≡ option_map (λ s. (restart s).state) (state_of d))

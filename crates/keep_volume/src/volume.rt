@@ -1,0 +1,566 @@
+// A device over a store.
+ghost use Rattle.std.specs.Prelude.{◌≡◌, ◌↔◌, ◌≤◌, IsTrue, option_copied, [], true, IfOk, IsOk, IfSome, Some, None, option_map, max, map, sum_by, IfErr, ◌+◌, ◌<◌, ◌^◌, slice_get};
+ghost use Rattle.md5.specs.Md5.{md5};
+ghost use Rattle.keep_event.specs.Device as machine;
+ghost use Rattle.keep_event.specs.Store as store;
+ghost use Rattle.keep_event.specs.Store.{find, size_of, sized};
+ghost use Rattle.std.specs.List.{find as list_find, last_or, filter};
+ghost use Rattle.keep_volume.specs.Calls.{IsLine, IsLineAnyway, IsExactly, HasReadOnly, HasStale, HasIdle, IsReopened, state_of, IsStoreCall, IsItem, Device, over, without_first, IsOpened, IsGivenBack};
+ghost use Rattle.keep_store.specs.Causes.{HasStoreCause};
+
+use crate::index::Index;
+use keep_event::{
+    Block, DeviceAnswer, DeviceQuery, DeviceRules, Lists, Name, PullItem, Sized, Stored, TrashItem,
+};
+use keep_spec::{Digest, Items, NoMemory, TokenId};
+use keep_store::{Failed, Store, StoreError};
+use md5::Md5;
+use std::alloc::Global;
+use std::collections::VecDeque;
+use std::marker::Model;
+
+/// Why a volume was not opened, with its store.
+pub enum OpenError<S> {
+    StoreFault { store: S },
+    NoMemory { store: S },
+}
+
+/// A device.
+#[derive(Drop)]
+pub struct Volume<S: Store> {
+    store: S,
+    index: Index,
+    round: u64,
+    trash: Vec<TrashItem>,
+    trash_done: usize,
+    pull: VecDeque<PullItem>,
+    rules: DeviceRules,
+    alloc: Global,
+}
+
+impl<S: Store> Model for Volume<S> {
+    ghost use Rattle.std.specs.Prelude.{◌≡◌, ◌≤◌, length, drop, IfSome};
+    ghost use Rattle.keep_volume.specs.Calls.{Device};
+    ghost use Rattle.keep_volume.specs.Index.{Remembers};
+
+    ghost Value = { Device };
+
+    ghost view = { λ v. record { held = S.held v.store; round = v.round; trash = drop v.trash_done v.trash.items; pull = v.pull.items; rules = v.rules; faults = S.faults v.store } };
+
+    ghost invariant = { λ v. record { remembers : Remembers (S.held v.store) v.index.entries; done : v.trash_done ≤ length v.trash.items; noted : IfSome (S.noted v.store) (λ n. n ≡ v.round); life : v.rules.trash_life ≤ 100000000000000000 } };
+}
+
+fn replica(digest: Digest) -> Name
+    ensures { result ≡ machine.replica digest }
+{
+    Name {
+        digest,
+        deadline: None,
+    }
+}
+
+impl<S: Store> Volume<S> {
+    /// Opens a device over its store.
+    pub fn open(alloc: Global, store: S, rules: DeviceRules) -> Result<Volume<S>, OpenError<S>>
+        requires { rules.trash_life ≤ 100000000000000000 }
+        ensures opened { IfOk result (λ v. IsOpened (S.held store) (S.noted store) rules v) }
+        ensures later { IfOk result (λ v. S.faults store ≤ v.faults) }
+        ensures given_back { IfErr result (IsGivenBack (S.held store) (S.noted store) (S.faults store) S.held S.noted S.faults) }
+    {
+        let mut store = store;
+        let Ok(round) = store.note() else {
+            return Err(OpenError::StoreFault { store });
+        };
+        let names = match store.names_from(None, usize::MAX) {
+            Ok(names) => names,
+            Err(StoreError::Failed) => return Err(OpenError::StoreFault { store }),
+            Err(StoreError::NoMemory) => return Err(OpenError::NoMemory { store }),
+        };
+        let Ok(index) = Index::of_names(alloc, names.as_slice()) else {
+            return Err(OpenError::NoMemory { store });
+        };
+        Ok(Volume {
+            store,
+            index,
+            round,
+            trash: Vec::new(alloc),
+            trash_done: 0,
+            pull: VecDeque::new(alloc),
+            rules,
+            alloc,
+        })
+    }
+
+    /// Gives the store back.
+    pub fn into_store(self) -> S
+        ensures held { S.held result ≡ self.held }
+        ensures faults { S.faults result ≡ self.faults }
+        ensures note { IfSome (S.noted result) (λ n. n ≡ self.round) }
+        ensures reopened { IsReopened (S.held result) (S.noted result) self }
+    {
+        let Volume {
+            store,
+            index: _,
+            round: _,
+            trash: _,
+            trash_done: _,
+            pull: _,
+            rules: _,
+            alloc: _,
+        } = self;
+        store
+    }
+
+    // Sets the time of what has the name.
+    fn renew(&mut self, name: &Name, mtime: u64) -> Result<bool, Failed>
+        ensures { IsStoreCall (λ es. store.touch name.now mtime es (find name.now es)) self.old self.new result }
+    {
+        let there = self.store.touch(name, mtime)?;
+        self.index.touch(name, mtime);
+        Ok(there)
+    }
+
+    // Gives what has a name another name and time.
+    fn rename(&mut self, from: &Name, to: &Name, mtime: u64) -> Result<bool, Failed>
+        ensures { IsStoreCall (λ es. store.rename from.now to.now mtime es (find from.now es)) self.old self.new result }
+    {
+        let there = self.store.rename(from, to, mtime)?;
+        self.index.rename(from, to, mtime);
+        Ok(there)
+    }
+
+    // Lets go of what has the name.
+    fn remove(&mut self, name: &Name) -> Result<bool, Failed>
+        ensures { IsStoreCall (store.without name.now) self.old self.new result }
+    {
+        let there = self.store.remove(name)?;
+        self.index.remove(name);
+        Ok(there)
+    }
+
+    // What the store keeps under a name.
+    fn stored(&mut self, name: &Name) -> Result<Option<Stored>, StoreError>
+        ensures value { IfOk result (λ o. IfSome self.old.held (λ es. o ≡ find name.now es)) }
+        ensures same { self.new ≡ over self.old (λ es. es) self.new.faults }
+        ensures cause { HasStoreCause self.old.faults self.new.faults result }
+    {
+        self.store.get(name)
+    }
+
+    // What is remembered of a name.
+    fn known(&self, name: &Name) -> Option<Sized>
+        ensures { IfSome self.now.held (λ es. result ≡ option_map size_of (find name.now es)) }
+    {
+        self.index.get(name)
+    }
+
+    pub fn touch(
+        &mut self,
+        reading: u64,
+        digest: &Digest,
+        _token: Option<TokenId>,
+    ) -> Result<DeviceAnswer, NoMemory>
+        ensures line { IsLine (machine.touch self.old.rules digest.now reading) self.old self.new result }
+        ensures read_only { HasReadOnly self.old self.new result }
+        ensures sure { IsOk result }
+    {
+        if self.rules.read_only {
+            return Ok(DeviceAnswer::ReadOnly);
+        }
+        let name = replica(*digest);
+        let Some(sized) = self.known(&name) else {
+            return Ok(DeviceAnswer::Absent);
+        };
+        let mtime = sized.mtime.max(reading);
+        match self.renew(&name, mtime) {
+            Ok(_) => Ok(DeviceAnswer::Touched { mtime }),
+            Err(_) => Ok(DeviceAnswer::StoreFault),
+        }
+    }
+
+    pub fn clear(&mut self, _reading: u64, round: u64) -> Result<DeviceAnswer, NoMemory>
+        ensures line { IsLine (machine.clear round) self.old self.new result }
+        ensures anyway { IsLineAnyway (machine.clear round) self.old self.new result }
+        ensures sure { IsOk result }
+    {
+        if round < self.round {
+            return Ok(DeviceAnswer::Stale { held: self.round });
+        }
+        if self.store.set_note(round).is_err() {
+            return Ok(DeviceAnswer::StoreFault);
+        }
+        self.round = round;
+        self.trash.clear();
+        self.trash_done = 0;
+        self.pull.clear();
+        Ok(DeviceAnswer::Cleared)
+    }
+
+    pub fn restart(&mut self, _reading: u64) -> Result<DeviceAnswer, NoMemory>
+        ensures line { IsLine machine.restart self.old self.new result }
+        ensures exact { IsExactly machine.restart self.old self.new result }
+        ensures no_fault { result ≡ Ok DeviceAnswer.StoreFault → ⊥ }
+        ensures sure { IsOk result }
+    {
+        self.trash.clear();
+        self.trash_done = 0;
+        self.pull.clear();
+        Ok(DeviceAnswer::Restarted)
+    }
+
+    // The first trashed copy whose deadline has passed.
+    fn first_due(&mut self, reading: u64) -> Option<Name>
+        ensures value { IfSome self.old.held (λ es. result ≡ option_map (λ e. e.0) (list_find (machine.is_due reading) es)) }
+        ensures same { self.new ≡ self.old }
+    {
+        self.index.first_due(reading)
+    }
+
+    pub fn empty_next(&mut self, reading: u64) -> Result<DeviceAnswer, NoMemory>
+        ensures line { IsLine (machine.empty_next self.old.rules reading) self.old self.new result }
+        ensures read_only { HasReadOnly self.old self.new result }
+        ensures sure { IsOk result }
+    {
+        if self.rules.read_only {
+            return Ok(DeviceAnswer::ReadOnly);
+        }
+        let Some(name) = self.first_due(reading) else {
+            return Ok(DeviceAnswer::Idle);
+        };
+        let digest = name.digest;
+        let deadline = name.deadline.unwrap_or(0);
+        match self.remove(&name) {
+            Ok(_) => Ok(DeviceAnswer::Emptied { digest, deadline }),
+            Err(_) => Ok(DeviceAnswer::StoreFault),
+        }
+    }
+
+    pub fn page(
+        &mut self,
+        _reading: u64,
+        round: u64,
+        prefix: &[u8],
+    ) -> Result<DeviceAnswer, NoMemory>
+        ensures line { IsLine (machine.page prefix.now round) self.old self.new result }
+        ensures stale { HasStale round self.old self.new result }
+    {
+        if round != self.round {
+            return Ok(DeviceAnswer::Stale { held: self.round });
+        }
+        let entries = self.index.page(self.alloc, prefix)?;
+        Ok(DeviceAnswer::Page {
+            entries: Items::of(entries),
+        })
+    }
+
+    /// The first item of the pull list.
+    pub fn next_pull(&self) -> Option<&PullItem>
+        ensures { option_copied result ≡ slice_get self.now.pull 0 }
+    {
+        self.pull.front()
+    }
+
+    pub fn pull_next(&mut self, _reading: u64) -> Result<DeviceAnswer, NoMemory>
+        ensures line { IsLine machine.pull_next self.old self.new result }
+        ensures exact { IsExactly machine.pull_next self.old self.new result }
+        ensures no_fault { result ≡ Ok DeviceAnswer.StoreFault → ⊥ }
+        ensures sure { IsOk result }
+    {
+        let Some(item) = self.pull.pop_front() else {
+            return Ok(DeviceAnswer::Idle);
+        };
+        Ok(DeviceAnswer::Pull { item })
+    }
+
+    pub fn accept(
+        &mut self,
+        _reading: u64,
+        round: u64,
+        lists: Lists,
+    ) -> Result<DeviceAnswer, NoMemory>
+        ensures line { IsLine (machine.accept round lists) self.old self.new result }
+        ensures exact { IsExactly (machine.accept round lists) self.old self.new result }
+        ensures no_fault { result ≡ Ok DeviceAnswer.StoreFault → ⊥ }
+        ensures sure { IsOk result }
+    {
+        if round != self.round {
+            return Ok(DeviceAnswer::Stale { held: self.round });
+        }
+        let trash = lists.trash.len() as u64;
+        let pull = lists.pull.len() as u64;
+        self.trash = lists.trash.into_vec();
+        self.trash_done = 0;
+        self.pull = VecDeque::from(lists.pull.into_vec());
+        Ok(DeviceAnswer::Accepted { trash, pull })
+    }
+
+    // The trashed copy of a digest with the greatest deadline.
+    fn last_copy(&self, digest: &Digest) -> Option<(Name, Sized)>
+        ensures { IfSome self.now.held (λ es. result ≡ option_map sized (machine.last_copy digest.now es)) }
+    {
+        self.index.last_copy(digest)
+    }
+
+    pub fn untrash(&mut self, reading: u64, digest: &Digest) -> Result<DeviceAnswer, NoMemory>
+        ensures line { IsLine (machine.untrash self.old.rules digest.now reading) self.old self.new result }
+        ensures read_only { HasReadOnly self.old self.new result }
+        ensures sure { IsOk result }
+    {
+        if self.rules.read_only {
+            return Ok(DeviceAnswer::ReadOnly);
+        }
+        let name = replica(*digest);
+        if let Some(known) = self.known(&name) {
+            return Ok(DeviceAnswer::Present { mtime: known.mtime });
+        }
+        let Some((copy, sized)) = self.last_copy(digest) else {
+            return Ok(DeviceAnswer::NoTrash);
+        };
+        let mtime = sized.mtime.max(reading);
+        match self.rename(&copy, &name, mtime) {
+            Ok(_) => Ok(DeviceAnswer::Back { mtime }),
+            Err(_) => Ok(DeviceAnswer::StoreFault),
+        }
+    }
+
+    // Puts the bytes in the place of what has the name, where there is room for them.
+    fn place(&mut self, mtime: u64, block: &Block) -> Result<DeviceAnswer, NoMemory>
+        ensures line { IsLine (machine.placed self.old.rules block.now mtime) self.old self.new result }
+        ensures placed { result ≡ Ok DeviceAnswer.ReadOnly → ⊥ }
+    {
+        let name = replica(block.digest());
+        let size = block.bytes().len() as u64;
+        let used = self.index.used();
+        if used - self.index.size_at(&name) as u128 + size as u128 > self.rules.capacity as u128 {
+            return Ok(DeviceAnswer::Full {
+                used,
+                capacity: self.rules.capacity,
+            });
+        }
+        self.index.reserve_one()?;
+        match self.store.put(&name, mtime, block.bytes()) {
+            Ok(()) => {}
+            Err(StoreError::Failed) => return Ok(DeviceAnswer::StoreFault),
+            Err(StoreError::NoMemory) => return Err(NoMemory),
+        }
+        self.index.put_in_room(&name, Sized { mtime, size });
+        Ok(DeviceAnswer::Written { mtime })
+    }
+
+    pub fn write(
+        &mut self,
+        reading: u64,
+        block: &Block,
+        _token: Option<TokenId>,
+    ) -> Result<DeviceAnswer, NoMemory>
+        ensures line { IsLine (machine.write self.old.rules block.now reading) self.old self.new result }
+        ensures read_only { HasReadOnly self.old self.new result }
+    {
+        if self.rules.read_only {
+            return Ok(DeviceAnswer::ReadOnly);
+        }
+        let name = replica(block.digest());
+        let stored = match self.stored(&name) {
+            Ok(Some(stored)) => stored,
+            Ok(None) => return self.place(reading, block),
+            Err(StoreError::Failed) => return Ok(DeviceAnswer::StoreFault),
+            Err(StoreError::NoMemory) => return Err(NoMemory),
+        };
+        let mtime = stored.mtime.max(reading);
+        if stored.bytes.as_slice() != block.bytes() {
+            if digest_of(stored.bytes.as_slice()) == block.digest() {
+                return Ok(DeviceAnswer::Collision);
+            }
+            return self.place(mtime, block);
+        }
+        match self.renew(&name, mtime) {
+            Ok(_) => Ok(DeviceAnswer::Written { mtime }),
+            Err(_) => Ok(DeviceAnswer::StoreFault),
+        }
+    }
+
+    // Takes the first item from the trash list.
+    fn advance(&mut self)
+        ensures { self.new ≡ without_first self.old }
+    {
+        if self.trash_done < self.trash.len() {
+            self.trash_done += 1;
+        }
+    }
+
+    // What the first item of the trash list asks for, with the list as it is.
+    fn trash_item(&mut self, reading: u64, item: TrashItem) -> Result<DeviceAnswer, Failed>
+        requires { reading < 4000000000000000000 }
+        ensures item { IsItem (machine.trash_item self.old.rules item reading) self.old self.new result }
+        ensures busy { result ≡ Ok DeviceAnswer.Idle → ⊥ }
+    {
+        if self.rules.read_only {
+            return Ok(DeviceAnswer::ReadOnly);
+        }
+        let digest = item.digest;
+        let name = replica(digest);
+        let Some(sized) = self.known(&name) else {
+            return Ok(DeviceAnswer::Gone { digest });
+        };
+        let mtime = sized.mtime;
+        if mtime != item.mtime {
+            return Ok(DeviceAnswer::Skipped { digest, mtime });
+        }
+        if reading as u128 <= mtime as u128 + self.rules.grace as u128 {
+            return Ok(DeviceAnswer::Young { digest, mtime });
+        }
+        let deadline = reading + self.rules.trash_life;
+        let round = self.round;
+        let to = Name {
+            digest,
+            deadline: Some(deadline),
+        };
+        self.rename(&name, &to, mtime)?;
+        Ok(DeviceAnswer::Trashed {
+            digest,
+            deadline,
+            round,
+        })
+    }
+
+    pub fn trash_next(&mut self, reading: u64) -> Result<DeviceAnswer, NoMemory>
+        requires { reading < 4000000000000000000 }
+        ensures line { IsLine (machine.trash_next self.old.rules reading) self.old self.new result }
+        ensures idle { HasIdle self.old self.new result }
+        ensures sure { IsOk result }
+    {
+        let Some(item) = self.first_trash() else {
+            return Ok(DeviceAnswer::Idle);
+        };
+        match self.trash_item(reading, item) {
+            Ok(answer) => {
+                self.advance();
+                Ok(answer)
+            }
+            Err(_) => Ok(DeviceAnswer::StoreFault),
+        }
+    }
+
+    fn first_trash(&self) -> Option<TrashItem>
+        ensures { result ≡ slice_get self.now.trash 0 }
+    {
+        self.trash.get(self.trash_done).copied()
+    }
+
+    pub fn compare_touch(
+        &mut self,
+        reading: u64,
+        block: &Block,
+        _token: Option<TokenId>,
+    ) -> Result<DeviceAnswer, NoMemory>
+        ensures line { IsLine (machine.compare_touch self.old.rules block.now reading) self.old self.new result }
+        ensures read_only { HasReadOnly self.old self.new result }
+    {
+        if self.rules.read_only {
+            return Ok(DeviceAnswer::ReadOnly);
+        }
+        let name = replica(block.digest());
+        let stored = match self.stored(&name) {
+            Ok(Some(stored)) => stored,
+            Ok(None) => return Ok(DeviceAnswer::Absent),
+            Err(StoreError::Failed) => return Ok(DeviceAnswer::StoreFault),
+            Err(StoreError::NoMemory) => return Err(NoMemory),
+        };
+        if stored.bytes.as_slice() != block.bytes() {
+            return Ok(other_bytes(block, stored.bytes.as_slice()));
+        }
+        let mtime = stored.mtime.max(reading);
+        match self.renew(&name, mtime) {
+            Ok(_) => Ok(DeviceAnswer::Touched { mtime }),
+            Err(_) => Ok(DeviceAnswer::StoreFault),
+        }
+    }
+
+    pub fn fetch(&mut self, _reading: u64, digest: &Digest) -> Result<DeviceAnswer, NoMemory>
+        ensures { IsLine (machine.fetch digest.now) self.old self.new result }
+    {
+        let name = replica(*digest);
+        let stored = match self.stored(&name) {
+            Ok(Some(stored)) => stored,
+            Ok(None) => return Ok(DeviceAnswer::Absent),
+            Err(StoreError::Failed) => return Ok(DeviceAnswer::StoreFault),
+            Err(StoreError::NoMemory) => return Err(NoMemory),
+        };
+        let found = digest_of(stored.bytes.as_slice());
+        if found != *digest {
+            return Ok(DeviceAnswer::Corrupt { found });
+        }
+        Ok(DeviceAnswer::Block {
+            bytes: stored.bytes,
+        })
+    }
+
+    /// Whether nothing is kept: no replica, no trashed copy, empty lists, and no round yet.
+    pub fn is_empty(&self) -> bool
+        ensures told { IfSome (state_of self.now) (λ s. IsTrue result ↔ (s ≡ machine.initial)) }
+        ensures lists { IsTrue result → (self.now.round ≡ 0) × (self.now.trash ≡ []) × (self.now.pull ≡ []) }
+    {
+        if self.round != 0 || !self.index.is_empty() {
+            return false;
+        }
+        if self.trash_done < self.trash.len() {
+            return false;
+        }
+        self.pull.is_empty()
+    }
+
+    /// Does the call that the query names.
+    pub fn step(&mut self, reading: u64, query: &DeviceQuery) -> Result<DeviceAnswer, NoMemory>
+        requires { reading < 4000000000000000000 }
+        ensures line { IsLine (machine.step self.old.rules reading query.now) self.old self.new result }
+        ensures may_fault { result ≡ Ok DeviceAnswer.StoreFault → machine.may_fault query.now ≡ true }
+    {
+        match query {
+            DeviceQuery::CompareTouch { block, token } => {
+                self.compare_touch(reading, block, *token)
+            }
+            DeviceQuery::Write { block, token } => self.write(reading, block, *token),
+            DeviceQuery::Fetch { digest } => self.fetch(reading, digest),
+            DeviceQuery::Touch { digest, token } => self.touch(reading, digest, *token),
+            DeviceQuery::Clear { round } => self.clear(reading, *round),
+            DeviceQuery::Accept { round, lists } => self.accept_copy(reading, *round, lists),
+            DeviceQuery::Page { round, prefix } => self.page(reading, *round, prefix.as_slice()),
+            DeviceQuery::TrashNext => self.trash_next(reading),
+            DeviceQuery::PullNext => self.pull_next(reading),
+            DeviceQuery::Untrash { digest } => self.untrash(reading, digest),
+            DeviceQuery::EmptyNext => self.empty_next(reading),
+            DeviceQuery::Restart => self.restart(reading),
+        }
+    }
+
+    // Accepts a copy of the lists.
+    fn accept_copy(
+        &mut self,
+        reading: u64,
+        round: u64,
+        lists: &Lists,
+    ) -> Result<DeviceAnswer, NoMemory>
+        ensures line { IsLine (machine.accept round lists.now) self.old self.new result }
+        ensures no_fault { result ≡ Ok DeviceAnswer.StoreFault → ⊥ }
+    {
+        let copy = lists.copied(self.alloc)?;
+        self.accept(reading, round, copy)
+    }
+}
+
+fn digest_of(bytes: &[u8]) -> Digest
+    ensures { result ≡ md5 bytes.now }
+{
+    Digest::of_md5(<Md5 as md5::Digest>::digest(bytes))
+}
+
+// The answer at a replica that holds other bytes than the block.
+fn other_bytes(block: &Block, held: &[u8]) -> DeviceAnswer
+    ensures { result ≡ machine.other_answer block.now held.now }
+{
+    let found = digest_of(held);
+    if found == block.digest() {
+        return DeviceAnswer::Collision;
+    }
+    DeviceAnswer::Corrupt { found }
+}
