@@ -2,7 +2,9 @@
 #![tactic(auto)]
 
 use anyhow::Result;
+use keep_locator::Locator;
 use keep_manifest::{BadManifest, Manifest, read};
+use keep_sign::sign_manifest;
 use std::env;
 use std::io::Read;
 
@@ -34,14 +36,42 @@ fn read_manifest(rt: &HostRuntime, input: &[u8]) -> Result<()> {
     Ok(())
 }
 
+// One locator a line.
+fn read_locators(rt: &HostRuntime, input: &[u8]) -> Result<()> {
+    let mut locators: u64 = 0;
+    for line in input.split(|byte| *byte == b'\n') {
+        if Locator::read(line).is_ok() {
+            locators = locators.saturating_add(1);
+        }
+    }
+    println!(rt; "{locators} locators")?;
+    Ok(())
+}
+
+fn sign(rt: &HostRuntime, input: &[u8]) -> Result<()> {
+    match sign_manifest(rt.alloc(), input, b"alice", 1700000000, 1209600, b"sesame") {
+        Ok(text) => {
+            let size = text.len();
+            println!(rt; "{size} bytes signed")?;
+        }
+        Err(BadManifest::Refused(refusal)) => {
+            let at = refusal.at;
+            println!(rt; "refused at {at}")?;
+        }
+        Err(BadManifest::NoMemory) => println!(rt; "no memory")?,
+    }
+    Ok(())
+}
+
 fn main(rt: HostRuntime) -> Result<()> {
     let mut input = Vec::new(rt.alloc());
     rt.reader().read_to_end(&mut input)?;
     for task in env::args(&rt)?.skip(1) {
-        if task.as_str() == "manifest" {
-            read_manifest(&rt, &input)?;
-        } else {
-            println!(rt; "no task {task}")?;
+        match task.as_str() {
+            "manifest" => read_manifest(&rt, &input)?,
+            "locators" => read_locators(&rt, &input)?,
+            "sign" => sign(&rt, &input)?,
+            _ => println!(rt; "no task {task}")?,
         }
     }
     Ok(())

@@ -124,13 +124,22 @@ abbrev pub event_lines : List ℕ → List Made → List ℕ
 event_lines name [] = []
 event_lines name (m ∷ ms) = line_of name m.event.query m.event.answer ++ event_lines name ms
 
+-- what becomes of the name and what is printed where a task has ended, as every task does
+abbrev pub names_after : List ℕ → Option Outcome → Names → Names
+names_after name None names = names
+names_after name (Some outcome) names = with_name name (state_after outcome) names
+
+abbrev pub line_after_end : List ℕ → Option Outcome → List ℕ
+line_after_end name None = []
+line_after_end name (Some outcome) = end_line name outcome
+
 -- a task is finished: its events, then its end
-abbrev pub finish_effect : Scene → List ℕ → Asked → Option Effect
-finish_effect scene name asked = option_map (λ outcome. record {
+abbrev pub finish_effect : Scene → List ℕ → Asked → Effect
+finish_effect scene name asked = record {
   made = asked.made;
-  scene = record { count = scene.count + length asked.made; state = asked.state; names = with_name name (state_after outcome) scene.names };
-  text = event_lines name asked.made ++ end_line name outcome;
-}) asked.outcome
+  scene = record { count = scene.count + length asked.made; state = asked.state; names = names_after name asked.outcome scene.names };
+  text = event_lines name asked.made ++ line_after_end name asked.outcome;
+}
 
 abbrev pub asked_at : Configuration → List ℕ → Scene → ℕ → Task → ℕ → Asked
 asked_at c failed scene reading task actor =
@@ -140,7 +149,7 @@ asked_at c failed scene reading task actor =
 -- a name is finished where its task is open
 abbrev pub finish_state : Configuration → List ℕ → Scene → List ℕ → ℕ → Option TaskState → Option Effect
 finish_state c failed scene name reading None = None
-finish_state c failed scene name reading (Some (S.Open task actor)) = finish_effect scene name (asked_at c failed scene reading task actor)
+finish_state c failed scene name reading (Some (S.Open task actor)) = Some (finish_effect scene name (asked_at c failed scene reading task actor))
 finish_state c failed scene name reading (Some (S.Stored locator)) = None
 finish_state c failed scene name reading (Some S.Ended) = None
 
