@@ -71,9 +71,34 @@ same_config a b e = cc
 pub config_eq-Decides : (a b : Configuration) → Decides (config_eq a b) (a ≡ b)
 config_eq-Decides a b =
     Decides-like _ (same_config a b)
-    (λ e. (ap (λ x. x.cluster) e, (ap (λ x. x.ttl) e, (ap (λ x. x.skew) e, (ap (λ x. x.secret) e,
-      (ap (λ x. x.system_token) e, (ap (λ x. x.tokens) e, (ap (λ x. x.devices) e, (ap (λ x. x.servers) e, (ap (λ x. x.mounts) e,
-      (ap (λ x. x.versions) e, (ap (λ x. x.trash_life) e, (ap (λ x. x.index_digits) e, ap (λ x. x.scan_limit) e)))))))))))))
+    (λ e. (
+      ap (λ x. x.cluster) e,
+      (
+        ap (λ x. x.ttl) e,
+        (
+          ap (λ x. x.skew) e,
+          (
+            ap (λ x. x.secret) e,
+            (
+              ap (λ x. x.system_token) e,
+              (
+                ap (λ x. x.tokens) e,
+                (
+                  ap (λ x. x.devices) e,
+                  (
+                    ap (λ x. x.servers) e,
+                    (
+                      ap (λ x. x.mounts) e,
+                      (ap (λ x. x.versions) e, (ap (λ x. x.trash_life) e, (ap (λ x. x.index_digits) e, ap (λ x. x.scan_limit) e))),
+                    ),
+                  ),
+                ),
+              ),
+            ),
+          ),
+        ),
+      ),
+    ))
     (Decides-and _ _ (bytes_eq-Decides a.cluster b.cluster)
     (Decides-and _ _ (Decides-eqb a.ttl b.ttl)
     (Decides-and _ _ (Decides-eqb a.skew b.skew)

@@ -8,8 +8,6 @@ mod error;
 pub mod json;
 mod limits;
 mod reading;
-#[cfg(test)]
-mod tests;
 
 pub use config::Config;
 pub use error::ConfigError;

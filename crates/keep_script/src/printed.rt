@@ -7,12 +7,10 @@ use crate::hexadecimal::push_digits;
 use itoa::Buffer;
 use keep_event::{DeviceAnswer, Outcome};
 use keep_spec::{Digest, NoMemory};
-use std::alloc::Global;
 
 /// Writes the line of an event of a named task on a device behind `out`. On a refusal part of the line may stand there.
 #[tactic(auto, unfolding(keep_history::specs::Printed::event_line))]
 pub fn push_event_line(
-    alloc: Global,
     out: &mut Vec<u8>,
     name: &[u8],
     device: u32,
@@ -31,12 +29,7 @@ pub fn push_event_line(
 
 /// Writes the line of a named task's end behind `out`. On a refusal part of the line may stand there.
 #[tactic(auto, unfolding(keep_history::specs::Printed::end_line))]
-pub fn push_end_line(
-    alloc: Global,
-    out: &mut Vec<u8>,
-    name: &[u8],
-    outcome: &Outcome,
-) -> Result<(), NoMemory>
+pub fn push_end_line(out: &mut Vec<u8>, name: &[u8], outcome: &Outcome) -> Result<(), NoMemory>
     ensures { OnOk result (out.new.items ≡ out.old.items ++ end_line name.now outcome.now) }
 {
     out.extend_from_slice(name)?;

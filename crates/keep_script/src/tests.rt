@@ -290,7 +290,7 @@ fn lines_of_events(rt: HostRuntime) -> Result<(), Fail> {
     ];
     for (answer, want) in &rows {
         let mut line = Vec::new(alloc);
-        push_event_line(alloc, &mut line, b"a", 63, answer)?;
+        push_event_line(&mut line, b"a", 63, answer)?;
         assert_eq!(rt;
             line.as_slice(),
             format!(in alloc; "a d63 {want}\n")?.as_bytes()
@@ -345,7 +345,7 @@ fn lines_of_ends(rt: HostRuntime) -> Result<(), Fail> {
     ];
     for (outcome, want) in &rows {
         let mut line = Vec::new(alloc);
-        push_end_line(alloc, &mut line, b"a", outcome)?;
+        push_end_line(&mut line, b"a", outcome)?;
         assert_eq!(rt;
             line.as_slice(),
             format!(in alloc; "a = {want}\n")?.as_bytes()

@@ -2,8 +2,6 @@
 #![tactic(auto)]
 
 mod index;
-#[cfg(test)]
-mod tests;
 mod volume;
 
 pub use volume::{OpenError, Volume};
