@@ -1,5 +1,6 @@
--- The device machine.
-use Rattle.std.specs.Prelude.{ℕ, ◌+◌, ◌-◌, max, ◌==◌, nat_lt, List, [], ◌∷◌, map, filter, length, sum_by, Bool, false, ◌&&◌, if◌then◌else◌, Option, None, Some, is_some, is_none, unwrap_or, take}
+-- The device machine: one definition for each query, over plain lists. `reading` is the clock's, in nanoseconds since 1970.
+-- A definition gives the answer and the state afterwards; the cases are tried in order, and what isn't said to change stays.
+use Rattle.std.specs.Prelude.{ℕ, ◌+◌, ◌-◌, max, ◌==◌, nat_lt, List, [], ◌∷◌, map, filter, length, sum_by, Bool, true, false, ◌&&◌, if◌then◌else◌, Option, None, Some, is_some, is_none, unwrap_or, take}
 use Rattle.std.specs.Str.{bytes_eq}
 use Rattle.std.specs.List.{find, last_or}
 use Rattle.hex.specs.Hex.{encode_lower}
@@ -13,6 +14,8 @@ use Rattle.keep_event.specs.declared.lists.PullItem.{PullItem}
 use Rattle.keep_event.specs.declared.lists.Lists.{Lists}
 use Rattle.keep_event.specs.declared.device.DeviceRules.{DeviceRules}
 use Rattle.keep_event.specs.declared.device.DeviceAnswer.{DeviceAnswer}
+use Rattle.keep_event.specs.declared.device.DeviceQuery.{DeviceQuery}
+use Rattle.keep_event.specs.declared.device.DeviceQuery.TheVariants as queries
 use Rattle.keep_event.specs.declared.device.DeviceAnswer.TheVariants.{ReadOnly, Absent, Touched, Written, Collision, Corrupt, Full, Block, Stale, Cleared, Accepted, Page, Idle, Gone, Skipped, Young, Trashed, Pull, Present, NoTrash, Back, Emptied, Restarted}
 
 -- replicas and trashed copies in one ascending list, the round, and the two lists
@@ -21,6 +24,10 @@ pub record State : Type 0 where
   pub round : ℕ
   pub trash : List TrashItem
   pub pull : List PullItem
+
+-- before anything was asked
+abbrev pub initial : State
+initial = record { held = []; round = 0; trash = []; pull = [] }
 
 pub record Reply : Type 0 where
   pub answer : DeviceAnswer
@@ -212,3 +219,33 @@ empty_next rules reading s = writable rules s (emptied s (find (is_due reading) 
 -- RESTART
 unfoldable pub restart : State → Reply
 restart s = record { answer = Restarted; state = record { held = s.held; round = s.round; trash = []; pull = [] } }
+
+-- ---- the line of a query; a token has no part in it
+abbrev pub step : DeviceRules → ℕ → DeviceQuery → State → Reply
+step rules reading (queries.CompareTouch block token) s = compare_touch rules block reading s
+step rules reading (queries.Write block token) s = write rules block reading s
+step rules reading (queries.Fetch digest) s = fetch digest s
+step rules reading (queries.Touch digest token) s = touch rules digest reading s
+step rules reading (queries.Clear round) s = clear round s
+step rules reading (queries.Accept round lists) s = accept round lists s
+step rules reading (queries.Page round prefix) s = page prefix round s
+step rules reading queries.TrashNext s = trash_next rules reading s
+step rules reading queries.PullNext s = pull_next s
+step rules reading (queries.Untrash digest) s = untrash rules digest reading s
+step rules reading queries.EmptyNext s = empty_next rules reading s
+step rules reading queries.Restart s = restart s
+
+-- a query that a fault of the store may keep from its line
+abbrev pub may_fault : DeviceQuery → Bool
+may_fault (queries.CompareTouch block token) = true
+may_fault (queries.Write block token) = true
+may_fault (queries.Fetch digest) = true
+may_fault (queries.Touch digest token) = true
+may_fault (queries.Clear round) = true
+may_fault (queries.Accept round lists) = false
+may_fault (queries.Page round prefix) = true
+may_fault queries.TrashNext = true
+may_fault queries.PullNext = false
+may_fault (queries.Untrash digest) = true
+may_fault queries.EmptyNext = true
+may_fault queries.Restart = false

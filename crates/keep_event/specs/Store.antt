@@ -4,6 +4,7 @@ use Rattle.std.specs.declared.cmp.Ordering.{Ordering}
 use Rattle.std.specs.Ordering.{nat_cmp, ordering_then, match_ordering}
 use Rattle.std.specs.Option.{option_cmp}
 use Rattle.std.specs.Cmp.Lexicographic.{slice_cmp}
+use Rattle.std.specs.List.Sorted.{IsStrictlySortedBy}
 use Rattle.keep_event.specs.declared.names.Name.{Name}
 use Rattle.keep_event.specs.declared.names.Stored.{Stored}
 use Rattle.keep_event.specs.declared.names.Sized.{Sized}
@@ -12,6 +13,13 @@ use Rattle.keep_event.specs.declared.names.Held.{Held}
 -- by digest, then no deadline first, then by deadline
 abbrev pub name_cmp : Name → Name → Ordering
 name_cmp a b = ordering_then (slice_cmp nat_cmp a.digest b.digest) (option_cmp nat_cmp a.deadline b.deadline)
+
+-- names in their order, each once
+abbrev pub AreAscending : List Name → Type 0
+AreAscending ns = IsStrictlySortedBy name_cmp ns
+
+abbrev pub IsAscending : {X : Type 0} → List (Name × X) → Type 0
+IsAscending es = AreAscending (map (λ e. e.0) es)
 
 -- an ascending list, cut at a name: what is below, what has the name, what is above
 pub record Cut (X : Type 0) : Type 0 where
@@ -45,14 +53,21 @@ stored mtime bytes = record { mtime = mtime; bytes = bytes }
 abbrev pub with_time : ℕ → Stored → Stored
 with_time mtime s = record { mtime = mtime; bytes = s.bytes }
 
--- at a name that is there
+-- what a name has becomes f of it; nothing, where nothing has the name
+abbrev pub change : {X : Type 0} → (X → X) → Name → List (Name × X) → Option X → List (Name × X)
+change f n es None = es
+change f n es (Some x) = put n (f x) es
+
+-- what a name has becomes f of it under another name, in the place of what has that
+abbrev pub move : {X : Type 0} → (X → X) → Name → Name → List (Name × X) → Option X → List (Name × X)
+move f from to es None = es
+move f from to es (Some x) = put to (f x) (without from es)
+
 abbrev pub touch : Name → ℕ → List (Name × Stored) → Option Stored → List (Name × Stored)
-touch n mtime es None = es
-touch n mtime es (Some s) = put n (with_time mtime s) es
+touch n mtime es o = change (with_time mtime) n es o
 
 abbrev pub rename : Name → Name → ℕ → List (Name × Stored) → Option Stored → List (Name × Stored)
-rename from to mtime es None = es
-rename from to mtime es (Some s) = put to (with_time mtime s) (without from es)
+rename from to mtime es o = move (with_time mtime) from to es o
 
 -- what a caller learns of a name
 abbrev pub size_of : Stored → Sized
@@ -62,7 +77,7 @@ abbrev pub held_of : Name × Stored → Held
 held_of e = record { name = e.0; mtime = e.1.mtime; size = length e.1.bytes }
 
 -- the entries above a name
-abbrev pub above : Option Name → List (Name × Stored) → List (Name × Stored)
+abbrev pub above : {X : Type 0} → Option Name → List (Name × X) → List (Name × X)
 above None es = es
 above (Some n) es = (cut n es).back
 
@@ -72,6 +87,9 @@ Becomes old new f = new ≡ option_map f old
 
 abbrev pub Stays : {A : Type 0} → Option A → Option A → Type 0
 Stays old new = new ≡ old
+
+abbrev pub with_mtime : ℕ → Sized → Sized
+with_mtime mtime s = record { mtime = mtime; size = s.size }
 
 -- the same as a device remembers it
 abbrev pub sized : Name × Stored → Name × Sized

@@ -1,37 +1,54 @@
 // A block and its digest.
-ghost use Rattle.std.specs.Prelude.{◌≡◌, length};
+ghost use Rattle.std.specs.Prelude.{◌≡◌, ◌≤◌, length, IfOk};
 ghost use Rattle.md5.specs.Md5.{md5};
 
-use keep_spec::{Bytes, Digest};
+use keep_spec::{Bytes, Digest, NoMemory};
 use md5::Md5;
+use std::alloc::Global;
 use std::marker::Model;
 
-/// A block, seen as its bytes.
+/// At most 67,108,864 bytes with their MD5, seen as the bytes.
 #[derive(Drop, Debug)]
 pub struct Block {
     digest: Digest,
     bytes: Bytes,
 }
 
+/// More bytes than a block may have.
+#[derive(Drop, Debug)]
+pub struct TooLong {
+    pub bytes: Bytes,
+}
+
 impl Model for Block {
-    ghost use Rattle.std.specs.Prelude.{◌≡◌, List, ℕ};
+    ghost use Rattle.std.specs.Prelude.{◌≡◌, ◌≤◌, List, ℕ, length};
     ghost use Rattle.md5.specs.Md5.{md5};
 
     ghost Value = { List ℕ };
 
     ghost view = { λ b. b.bytes };
 
-    ghost invariant = { λ b. b.digest ≡ md5 b.bytes };
+    ghost invariant = { λ b. (b.digest ≡ md5 b.bytes) × (length b.bytes ≤ 67108864) };
 }
 
 impl Block {
-    pub fn of(bytes: Bytes) -> Block
-        ensures { result ≡ bytes }
+    ghost use Rattle.keep_event.specs.Block.{block_of};
+
+    /// The most bytes that a block has.
+    pub const MAX_SIZE: usize = 67_108_864;
+
+    /// Hashes the bytes, once for all. Bytes that are too long come back, unhashed.
+    pub fn of(bytes: Bytes) -> Result<Block, TooLong>
+        ensures { result ≡ block_of bytes }
     {
+        if bytes.len() > Block::MAX_SIZE {
+            return Err(TooLong { bytes });
+        }
         let digest = Digest::of_md5(<Md5 as md5::Digest>::digest(bytes.as_slice()));
-        Block { digest, bytes }
+        Ok(Block { digest, bytes })
     }
 
+    /// The MD5 of the bytes, which was taken when the block was made.
     pub fn digest(&self) -> Digest
         ensures { result ≡ md5 self.now }
     {
@@ -39,8 +56,26 @@ impl Block {
     }
 
     pub fn bytes(&self) -> &[u8]
-        ensures { result.now ≡ self.now }
+        ensures value { result.now ≡ self.now }
+        ensures small { length self.now ≤ 67108864 }
     {
         self.bytes.as_slice()
+    }
+
+    pub fn into_bytes(self) -> Bytes
+        ensures { result ≡ self }
+    {
+        let Block { digest: _, bytes } = self;
+        bytes
+    }
+
+    /// The same block again, without hashing it again.
+    pub fn copied(&self, alloc: Global) -> Result<Block, NoMemory>
+        ensures { IfOk result (λ b. b ≡ self.now) }
+    {
+        Ok(Block {
+            digest: self.digest,
+            bytes: self.bytes.copied(alloc)?,
+        })
     }
 }

@@ -3,10 +3,16 @@
 
 mod block;
 mod device;
+mod event;
 mod lists;
 mod names;
+mod task;
+#[cfg(test)]
+mod tests;
 
-pub use block::Block;
-pub use device::{DeviceAnswer, DeviceRules};
+pub use block::{Block, TooLong};
+pub use device::{DeviceAnswer, DeviceQuery, DeviceRules};
+pub use event::{Answer, Event, Journal, Place, Query};
 pub use lists::{Entry, Lists, PullItem, TrashItem};
 pub use names::{Held, Name, Sized, Stored};
+pub use task::{Command, Opening, Outcome, Task, TaskState};

@@ -1,9 +1,9 @@
 -- The devices of a server are devices of the configuration.
-use Rattle.std.proofs.Common.{◌≡◌, ℕ, ◌==◌, ◌&&◌, ◌<◌, nat_lt, List, [], ◌∷◌, length, map, filter, Bool, true, false, cond, not, All}
+use Rattle.std.proofs.Common.{◌≡◌, ℕ, ◌==◌, ◌<◌, List, [], ◌∷◌, length, map, filter, Bool, true, false, cond, not, All}
 use Rattle.std.specs.List.{list_all, AllByRecursion}
 use Rattle.std.proofs.lemmas.Bool.{and_parts, ltb-true}
 use Rattle.std.proofs.lemmas.List.Elements.{All-from_recursion, recursion_from_All, All-filter}
-use Rattle.keep_spec.specs.Config.{Configuration, IsGood, firsts, devices_of, is_mount, is_within, all_distinct, all_mounted}
+use Rattle.keep_spec.specs.Config.{Configuration, IsGood, firsts, devices_of, is_mount}
 use Rattle.keep_spec.specs.declared.config.Mount.{Mount}
 
 -- what holds of each of a list holds of each of its firsts

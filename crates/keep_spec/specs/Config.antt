@@ -1,5 +1,5 @@
 -- The configuration: what each field must be, and what a text says. This is the project's own format.
-use Rattle.std.specs.Prelude.{ℕ, zero, suc, ◌+◌, ◌-◌, ◌*◌, ◌^◌, ◌==◌, ◌&&◌, nat_le, nat_lt, List, [], ◌∷◌, length, map, filter, slice_index_or, Bool, true, not, IsTrue, Option, None, Some, is_some, bytes_eq, ok_or, option_and_then, option_map, Result, Ok, Err, if◌then◌else◌, codes}
+use Rattle.std.specs.Prelude.{ℕ, zero, suc, ◌+◌, ◌-◌, ◌*◌, ◌^◌, ◌==◌, ◌&&◌, nat_le, nat_lt, List, [], ◌∷◌, length, map, filter, slice_index_or, Bool, true, not, IsTrue, Option, Some, is_some, bytes_eq, ok_or, option_and_then, option_map, Result, Ok, Err, if◌then◌else◌, codes}
 use Rattle.std.specs.List.{list_all, list_any, position_from}
 use Rattle.serde_json.specs.Data.{Data}
 use Rattle.serde_json.specs.Find.{get, as_str, as_object}
@@ -216,10 +216,19 @@ config_of_object d = do
   index_digits ← field IndexDigits is_index_digits (number_or 0 (codes "index_digits") d)
   scan_limit ← field ScanLimit is_scan_limit (number_or 1000 (codes "scan_limit") d)
   if all_known d then Ok (record {
-    cluster = cluster; ttl = ttl; skew = skew;
-    secret = secret; system_token = system_token; tokens = tokens;
-    devices = devices; servers = servers; mounts = mounts;
-    versions = versions; trash_life = trash_life; index_digits = index_digits; scan_limit = scan_limit
+    cluster = cluster;
+    ttl = ttl;
+    skew = skew;
+    secret = secret;
+    system_token = system_token;
+    tokens = tokens;
+    devices = devices;
+    servers = servers;
+    mounts = mounts;
+    versions = versions;
+    trash_life = trash_life;
+    index_digits = index_digits;
+    scan_limit = scan_limit;
   }) else Err Unknown
 
 -- the configuration of a text, or what of it is wrong

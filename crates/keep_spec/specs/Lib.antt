@@ -1,5 +1,13 @@
 pub mod Causes
 pub mod Config
+pub mod Digest
 pub mod Json
 pub mod Lines
+pub mod Locator
+pub mod Manifest
+pub mod Names
+pub mod Portable
+pub mod Refusals
+pub mod Sign
+pub mod SignedText
 pub mod Uuid

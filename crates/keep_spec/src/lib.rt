@@ -2,18 +2,31 @@
 #![tactic(auto)]
 
 mod bytes;
+mod bytes_order;
 mod config;
 mod digest;
 mod equality;
 mod items;
+mod manifest;
 mod memory;
+mod number;
+mod permission;
+mod portable;
+mod status;
 mod token;
+mod unverified;
 mod uuid;
 
 pub use bytes::Bytes;
 pub use config::{Device, Field, Mount, Server};
-pub use digest::Digest;
+pub use digest::{DIGEST_DIGITS, Digest, digest_front, is_lower_digit};
 pub use items::Items;
+pub use manifest::{Kind, Manifest, Refusal, Segment, Stream};
 pub use memory::NoMemory;
+pub use number::{NUMBER_DIGITS, NumberFront, number_front, read_number};
+pub use permission::Permission;
+pub use portable::{PORTABLE_MAX, Portable};
+pub use status::Status;
 pub use token::TokenId;
+pub use unverified::{Triple, Unverified};
 pub use uuid::{BadUuid, Uuid};

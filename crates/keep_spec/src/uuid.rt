@@ -70,6 +70,5 @@ fn is_uuid(text: &[u8]) -> bool
 fn is_uuid_part(text: &[u8]) -> bool
     ensures { result ≡ is_uuid_part text.now }
 {
-    text.iter()
-        .all(|b| (*b >= b'a' && *b <= b'z') || (*b >= b'0' && *b <= b'9'))
+    text.iter().all(|b| (*b >= b'a' && *b <= b'z') || (*b >= b'0' && *b <= b'9'))
 }

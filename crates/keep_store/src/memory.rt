@@ -1,9 +1,9 @@
 // A store in memory, with a list of the calls that are to fail.
-ghost use Rattle.std.specs.Prelude.{◌≡◌, ◌<◌, ◌≤◌, ℕ, List, Option, Some, None, IfSome, IfOk, OnOk, OnErr, [], ◌∷◌, ◌++◌, length, option_map, take, drop, map};
-ghost use Rattle.keep_event.specs.Store.{find, put, touch, rename, without, above, held_of, size_of};
-ghost use Rattle.keep_store.specs.Places.{IsCounted, has};
+ghost use Rattle.std.specs.Prelude.{◌≡◌, ℕ, List, Option, Some, None, IfSome, IfOk, OnOk, OnErr, [], option_map, take, map};
+ghost use Rattle.keep_event.specs.Store.{find, put, above, held_of, size_of, AreAscending, stored};
+ghost use Rattle.keep_store.specs.Names.{IsCounted};
 
-use crate::{Failed, Store, StoreError, place_of};
+use crate::{Failed, NameList, Store, StoreError};
 use keep_event::{Held, Name, Sized, Stored};
 use keep_spec::{Bytes, NoMemory};
 use std::alloc::Global;
@@ -11,7 +11,7 @@ use std::alloc::Global;
 /// A store in memory.
 #[derive(Drop)]
 pub struct MemoryStore {
-    items: Vec<(Name, Stored)>,
+    names: NameList<Stored>,
     round: u64,
     failing: Vec<u64>,
     calls: u64,
@@ -19,50 +19,11 @@ pub struct MemoryStore {
     alloc: Global,
 }
 
-pub(crate) fn found(
-    alloc: Global,
-    items: &[(Name, Stored)],
-    name: &Name,
-) -> Result<Option<Stored>, NoMemory>
-    ensures { IfOk result (λ o. o ≡ find name.now items.now) }
-{
-    match place_of(items, name) {
-        Ok(i) => {
-            let stored = &items[i].1;
-            Ok(Some(Stored {
-                mtime: stored.mtime,
-                bytes: stored.bytes.copied(alloc)?,
-            }))
-        }
-        Err(_) => Ok(None),
-    }
-}
-
-pub(crate) fn kept(
-    items: &mut Vec<(Name, Stored)>,
-    name: &Name,
-    stored: Stored,
-) -> Result<(), NoMemory>
-    ensures ok { OnOk result (items.new.items ≡ put name.now stored items.old.items) }
-    ensures err { OnErr result (items.new.items ≡ items.old.items) }
-{
-    match place_of(items, name) {
-        Ok(i) => {
-            items[i] = (*name, stored);
-            Ok(())
-        }
-        Err(i) => match items.insert(i, (*name, stored)) {
-            Ok(()) => Ok(()),
-            Err(_) => Err(NoMemory),
-        },
-    }
-}
-
 impl MemoryStore {
     /// An empty store whose n-th call fails where n is in the list, counted from 1.
     pub fn new(alloc: Global, failing: Vec<u64>) -> MemoryStore {
         MemoryStore {
-            items: Vec::new(alloc),
+            names: NameList::new(alloc),
             round: 0,
             failing,
             calls: 0,
@@ -73,7 +34,7 @@ impl MemoryStore {
 
     // Whether this call is to fail.
     fn is_failing(&mut self) -> bool
-        ensures same { (self.new.items.items ≡ self.old.items.items) × (self.new.round ≡ self.old.round) }
+        ensures same { (self.new.names.entries ≡ self.old.names.entries) × (self.new.round ≡ self.old.round) }
         ensures cause { IsCounted self.old.faults self.new.faults result }
     {
         self.calls = self.calls.saturating_add(1);
@@ -86,7 +47,7 @@ impl MemoryStore {
 }
 
 impl Store for MemoryStore {
-    ghost held = { λ s. Some s.items.items };
+    ghost held = { λ s. Some s.names.entries };
 
     ghost noted = { λ s. Some s.round };
 
@@ -96,9 +57,9 @@ impl Store for MemoryStore {
         if self.is_failing() {
             return Err(StoreError::Failed);
         }
-        match found(self.alloc, &self.items, name) {
-            Ok(o) => Ok(o),
-            Err(_) => Err(StoreError::NoMemory),
+        match found(self.alloc, &self.names, name) {
+            Ok(stored) => Ok(stored),
+            Err(NoMemory) => Err(StoreError::NoMemory),
         }
     }
 
@@ -106,16 +67,9 @@ impl Store for MemoryStore {
         if self.is_failing() {
             return Err(StoreError::Failed);
         }
-        let Ok(copy) = Vec::from_slice(self.alloc, bytes) else {
-            return Err(StoreError::NoMemory);
-        };
-        let stored = Stored {
-            mtime,
-            bytes: Bytes::of(copy),
-        };
-        match kept(&mut self.items, name, stored) {
+        match kept(self.alloc, &mut self.names, name, mtime, bytes) {
             Ok(()) => Ok(()),
-            Err(_) => Err(StoreError::NoMemory),
+            Err(NoMemory) => Err(StoreError::NoMemory),
         }
     }
 
@@ -123,10 +77,9 @@ impl Store for MemoryStore {
         if self.is_failing() {
             return Err(StoreError::Failed);
         }
-        let start = start_of(&self.items, after);
-        match listed(self.alloc, &self.items[start..], limit) {
-            Ok(v) => Ok(v),
-            Err(_) => Err(StoreError::NoMemory),
+        match listed(self.alloc, &self.names, after, limit) {
+            Ok(names) => Ok(names),
+            Err(NoMemory) => Err(StoreError::NoMemory),
         }
     }
 
@@ -134,28 +87,28 @@ impl Store for MemoryStore {
         if self.is_failing() {
             return Err(Failed);
         }
-        Ok(sized(&self.items, name))
+        Ok(sized(&self.names, name))
     }
 
     fn touch(&mut self, name: &Name, mtime: u64) -> Result<bool, Failed> {
         if self.is_failing() {
             return Err(Failed);
         }
-        Ok(touched(&mut self.items, name, mtime))
+        Ok(self.names.touch(name, mtime))
     }
 
     fn rename(&mut self, from: &Name, to: &Name, mtime: u64) -> Result<bool, Failed> {
         if self.is_failing() {
             return Err(Failed);
         }
-        Ok(renamed(&mut self.items, from, to, mtime))
+        Ok(self.names.rename(from, to, mtime))
     }
 
     fn remove(&mut self, name: &Name) -> Result<bool, Failed> {
         if self.is_failing() {
             return Err(Failed);
         }
-        Ok(removed(&mut self.items, name))
+        Ok(self.names.remove(name).is_some())
     }
 
     fn note(&mut self) -> Result<u64, Failed> {
@@ -174,29 +127,49 @@ impl Store for MemoryStore {
     }
 }
 
-// Where the entries above a name begin.
-pub(crate) fn start_of(items: &[(Name, Stored)], after: Option<Name>) -> usize
-    ensures bound { result ≤ length items.now }
-    ensures rest { above after items.now ≡ drop result items.now }
+// A copy of what the name has.
+pub(crate) fn found(
+    alloc: Global,
+    names: &NameList<Stored>,
+    name: &Name,
+) -> Result<Option<Stored>, NoMemory>
+    ensures { IfOk result (λ o. o ≡ find name.now names.now.entries) }
 {
-    match after {
-        None => 0,
-        Some(name) => match place_of(items, &name) {
-            Ok(i) => i + 1,
-            Err(i) => i,
-        },
+    match names.get(name) {
+        Some(stored) => Ok(Some(Stored {
+            mtime: stored.mtime,
+            bytes: stored.bytes.copied(alloc)?,
+        })),
+        None => Ok(None),
     }
+}
+
+// Gives the name a copy of the bytes.
+pub(crate) fn kept(
+    alloc: Global,
+    names: &mut NameList<Stored>,
+    name: &Name,
+    mtime: u64,
+    bytes: &[u8],
+) -> Result<(), NoMemory>
+    ensures ok { OnOk result (names.new.entries ≡ put name.now (stored mtime bytes.now) names.old.entries) }
+    ensures err { OnErr result (names.new.entries ≡ names.old.entries) }
+{
+    let bytes = Bytes::of(Vec::from_slice(alloc, bytes)?);
+    names.put(name, Stored { mtime, bytes })
 }
 
 pub(crate) fn listed(
     alloc: Global,
-    items: &[(Name, Stored)],
+    names: &NameList<Stored>,
+    after: Option<Name>,
     limit: usize,
 ) -> Result<Vec<Held>, NoMemory>
-    ensures { IfOk result (λ v. v.items ≡ take limit (map held_of items.now)) }
+    ensures value { IfOk result (λ v. v.items ≡ take limit (map held_of (above after names.now.entries))) }
+    ensures ascending { IfOk result (λ v. AreAscending (map (λ h. h.name) v.items)) }
 {
     let mut out = Vec::new(alloc);
-    for item in items {
+    for item in names.above(after.as_ref()) {
         if out.len() == limit {
             break;
         }
@@ -212,66 +185,12 @@ pub(crate) fn listed(
     Ok(out)
 }
 
-pub(crate) fn sized(items: &[(Name, Stored)], name: &Name) -> Option<Sized>
-    ensures { result ≡ option_map size_of (find name.now items.now) }
+pub(crate) fn sized(names: &NameList<Stored>, name: &Name) -> Option<Sized>
+    ensures { result ≡ option_map size_of (find name.now names.now.entries) }
 {
-    match place_of(items, name) {
-        Ok(i) => {
-            let stored = &items[i].1;
-            Some(Sized {
-                mtime: stored.mtime,
-                size: stored.bytes.len() as u64,
-            })
-        }
-        Err(_) => None,
-    }
-}
-
-pub(crate) fn touched(items: &mut Vec<(Name, Stored)>, name: &Name, mtime: u64) -> bool
-    ensures value { result ≡ has name.now items.old.items }
-    ensures after { items.new.items ≡ touch name.now mtime items.old.items (find name.now items.old.items) }
-{
-    match place_of(items, name) {
-        Ok(i) => {
-            let item = &mut items[i];
-            item.0 = *name;
-            item.1.mtime = mtime;
-            true
-        }
-        Err(_) => false,
-    }
-}
-
-pub(crate) fn removed(items: &mut Vec<(Name, Stored)>, name: &Name) -> bool
-    ensures value { result ≡ has name.now items.old.items }
-    ensures after { items.new.items ≡ without name.now items.old.items }
-{
-    match place_of(items, name) {
-        Ok(i) => {
-            let _ = items.remove(i);
-            true
-        }
-        Err(_) => false,
-    }
-}
-
-pub(crate) fn renamed(items: &mut Vec<(Name, Stored)>, from: &Name, to: &Name, mtime: u64) -> bool
-    ensures value { result ≡ has from.now items.old.items }
-    ensures after { items.new.items ≡ rename from.now to.now mtime items.old.items (find from.now items.old.items) }
-{
-    match place_of(items, from) {
-        Ok(i) => {
-            let (_, mut stored) = items.remove(i);
-            stored.mtime = mtime;
-            match place_of(items, to) {
-                Ok(j) => items[j] = (*to, stored),
-                Err(j) => match items.insert(j, (*to, stored)) {
-                    Ok(()) => {}
-                    Err(_) => unreachable!(),
-                },
-            }
-            true
-        }
-        Err(_) => false,
-    }
+    let stored = names.get(name)?;
+    Some(Sized {
+        mtime: stored.mtime,
+        size: stored.bytes.len() as u64,
+    })
 }

@@ -1,9 +1,9 @@
 // What keeps names.
 ghost use Rattle.std.specs.Prelude.{◌≡◌, ℕ, List, Option, Some, None, IfOk, OnOk, OnErr, IfSome, option_map, map, take, length};
-ghost use Rattle.keep_event.specs.Store.{find, put, stored, touch, rename, without, above, held_of, size_of, Becomes, Stays};
+ghost use Rattle.keep_event.specs.Store.{find, put, stored, touch, rename, without, above, held_of, size_of, AreAscending, Becomes, Stays};
 ghost use Rattle.keep_spec.specs.Causes.{HasCause};
 ghost use Rattle.keep_store.specs.Causes.{HasStoreCause};
-ghost use Rattle.keep_store.specs.Places.{has};
+ghost use Rattle.keep_store.specs.Names.{has};
 ghost use Rattle.keep_event.specs.declared.names.Name.{Name as TheName};
 ghost use Rattle.keep_event.specs.declared.names.Stored.{Stored as TheStored};
 
@@ -48,6 +48,7 @@ pub trait Store {
     /// The first names above a name, or of all.
     fn names_from(&mut self, after: Option<Name>, limit: usize) -> Result<Vec<Held>, StoreError>
         ensures value { IfOk result (λ v. IfSome (held self.old) (λ es. v.items ≡ take limit (map held_of (above after es)))) }
+        ensures ascending { IfOk result (λ v. AreAscending (map (λ h. h.name) v.items)) }
         ensures same { Stays (held self.old) (held self.new) }
         ensures note { Stays (noted self.old) (noted self.new) }
         ensures cause { HasStoreCause (faults self.old) (faults self.new) result };

@@ -1,24 +1,25 @@
 // A store in memory that never fails.
 ghost use Rattle.std.specs.Prelude.{◌≡◌, ℕ, Some, []};
 
-use crate::memory::{found, kept, listed, removed, renamed, sized, start_of, touched};
-use crate::{Failed, Store, StoreError};
+use crate::memory::{found, kept, listed, sized};
+use crate::{Failed, NameList, Store, StoreError};
 use keep_event::{Held, Name, Sized, Stored};
-use keep_spec::Bytes;
+use keep_spec::NoMemory;
 use std::alloc::Global;
 
 /// A store in memory that never fails.
 #[derive(Drop)]
 pub struct SureStore {
-    items: Vec<(Name, Stored)>,
+    names: NameList<Stored>,
     round: u64,
     alloc: Global,
 }
 
 impl SureStore {
+    /// An empty store with note 0.
     pub fn new(alloc: Global) -> SureStore {
         SureStore {
-            items: Vec::new(alloc),
+            names: NameList::new(alloc),
             round: 0,
             alloc,
         }
@@ -26,55 +27,47 @@ impl SureStore {
 }
 
 impl Store for SureStore {
-    ghost held = { λ s. Some s.items.items };
+    ghost held = { λ s. Some s.names.entries };
 
     ghost noted = { λ s. Some s.round };
 
     ghost faults = { λ s. 0 };
 
     fn get(&mut self, name: &Name) -> Result<Option<Stored>, StoreError> {
-        match found(self.alloc, &self.items, name) {
-            Ok(o) => Ok(o),
-            Err(_) => Err(StoreError::NoMemory),
+        match found(self.alloc, &self.names, name) {
+            Ok(stored) => Ok(stored),
+            Err(NoMemory) => Err(StoreError::NoMemory),
         }
     }
 
     fn put(&mut self, name: &Name, mtime: u64, bytes: &[u8]) -> Result<(), StoreError> {
-        let Ok(copy) = Vec::from_slice(self.alloc, bytes) else {
-            return Err(StoreError::NoMemory);
-        };
-        let stored = Stored {
-            mtime,
-            bytes: Bytes::of(copy),
-        };
-        match kept(&mut self.items, name, stored) {
+        match kept(self.alloc, &mut self.names, name, mtime, bytes) {
             Ok(()) => Ok(()),
-            Err(_) => Err(StoreError::NoMemory),
+            Err(NoMemory) => Err(StoreError::NoMemory),
         }
     }
 
     fn names_from(&mut self, after: Option<Name>, limit: usize) -> Result<Vec<Held>, StoreError> {
-        let start = start_of(&self.items, after);
-        match listed(self.alloc, &self.items[start..], limit) {
-            Ok(v) => Ok(v),
-            Err(_) => Err(StoreError::NoMemory),
+        match listed(self.alloc, &self.names, after, limit) {
+            Ok(names) => Ok(names),
+            Err(NoMemory) => Err(StoreError::NoMemory),
         }
     }
 
     fn stat(&mut self, name: &Name) -> Result<Option<Sized>, Failed> {
-        Ok(sized(&self.items, name))
+        Ok(sized(&self.names, name))
     }
 
     fn touch(&mut self, name: &Name, mtime: u64) -> Result<bool, Failed> {
-        Ok(touched(&mut self.items, name, mtime))
+        Ok(self.names.touch(name, mtime))
     }
 
     fn rename(&mut self, from: &Name, to: &Name, mtime: u64) -> Result<bool, Failed> {
-        Ok(renamed(&mut self.items, from, to, mtime))
+        Ok(self.names.rename(from, to, mtime))
     }
 
     fn remove(&mut self, name: &Name) -> Result<bool, Failed> {
-        Ok(removed(&mut self.items, name))
+        Ok(self.names.remove(name).is_some())
     }
 
     fn note(&mut self) -> Result<u64, Failed> {

@@ -6,7 +6,7 @@ use Rattle.keep_event.specs.declared.names.Name.{Name}
 use Rattle.keep_event.specs.declared.names.Stored.{Stored}
 use Rattle.keep_event.specs.declared.device.DeviceAnswer.{DeviceAnswer}
 use Rattle.keep_event.specs.declared.device.DeviceAnswer.TheVariants.{StoreFault}
-use Rattle.keep_volume.specs.Calls.{Device, state_with, state_of, IsToldLine, IsLine, IsItem, HasFault, IsKept, over, without_first}
+use Rattle.keep_volume.specs.Calls.{Device, state_with, state_of, IsToldLine, IsLine, IsItem, HasFault, IsKept, IsExactly, over, without_first}
 use Rattle.keep_spec.specs.declared.memory.NoMemory.{NoMemory}
 
 pub told-map : {A : Type 0} {P Q : A → Type 0} (o : Option A) → ((x : A) → P x → Q x) → IfSome o P → IfSome o Q
@@ -45,6 +45,11 @@ module _ (line : State → Reply) (old new : Device) (later : old.faults ≤ new
       → IfSome old.held (λ es. line (state_with old es) ≡ record { answer = a; state = state_with new (h es) })
       → (a ≡ StoreFault → ⊥) → IsLine line old new (Ok a)
   becomes-line a h e p fault = record { told = told-becomes line old.held new.held a h (state_with old) (state_with new) e p; fault = λ e. absurd (fault e); kept = λ e. absurd (fault e); later = later; rules = rules }
+
+-- the line says so whatever the contents are
+pub exactly : (line : State → Reply) (old new : Device) (a : DeviceAnswer) → ((es : List (Name × Stored)) → line (state_with old es) ≡ record { answer = a; state = state_with new es })
+    → new.held ≡ old.held → new.faults ≡ old.faults → new.rules ≡ old.rules → IsExactly line old new (Ok a)
+exactly line old new a p h f r = record { told = λ es. (ap (λ (r : Reply). Ok r.answer) (sym (p es)), ap (λ (r : Reply). r.state) (sym (p es))); held = h; faults = f; rules = r }
 
 pub option_map-same : {A : Type 0} (o : Option A) → o ≡ option_map (λ x. x) o
 option_map-same None = refl

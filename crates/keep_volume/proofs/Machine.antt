@@ -274,10 +274,18 @@ pub pull-done : (s : State) (item : PullItem) (rest : List PullItem) → s.pull 
 unfolding machine.pull_next
 pull-done s item rest e = ap (machine.pull_first s) e
 
-pub no-items : (xs : List PullItem) → length xs ≡ 0 → xs ≡ []
+pub no-items : {A : Type 0} (xs : List A) → length xs ≡ 0 → xs ≡ []
 no-items [] e = refl
 no-items (x ∷ xs) e = absurd (omega arith)
 
-pub first-item : (xs : List PullItem) (x : PullItem) → 0 < length xs → x ≡ slice_index_or xs 0 x → xs ≡ x ∷ drop 1 xs
-first-item [] x lt e = absurd (omega arith)
-first-item (y ∷ xs) x lt e = ap (λ v. v ∷ xs) (sym e)
+pub none-first : (xs ys : List PullItem) → xs ≡ ys → ys ≡ drop 1 xs → xs ≡ []
+none-first [] ys e f = refl
+none-first (x ∷ xs) ys e f = absurd (let h : length (x ∷ xs) ≡ length xs = ap length (e ∙ f) in omega (arith, h))
+
+pub none-at-first : {A : Type 0} (xs : List A) → slice_get xs 0 ≡ None → xs ≡ []
+none-at-first [] e = refl
+none-at-first (x ∷ xs) e = cc e
+
+pub some-at-first : {A : Type 0} (xs : List A) (x : A) → Some x ≡ slice_get xs 0 → xs ≡ [] → ⊥
+some-at-first [] x e f = cc e
+some-at-first (y ∷ xs) x e f = cc f

@@ -1,11 +1,9 @@
 -- A device over a store that may tell what it holds.
-use Rattle.std.specs.Prelude.{◌≡◌, ℕ, ◌≤◌, ◌<◌, ◌^◌, List, sum_by, Option, Some, option_map, IfSome, Result, Ok, Err, ◌⊎◌, ⊤, drop, unwrap_or, [], Bool}
+use Rattle.std.specs.Prelude.{◌≡◌, ◌≢◌, ℕ, ◌≤◌, List, Option, Some, option_map, IfSome, Result, Ok, Err, ◌⊎◌, ⊤, drop, [], true}
 use Rattle.keep_spec.specs.Causes.{Rose}
-use Rattle.keep_event.specs.Store.{sizes, find}
-use Rattle.keep_event.specs.Device.{State, Reply, is_due_at}
+use Rattle.keep_event.specs.Device.{State, Reply, restart}
 use Rattle.keep_event.specs.declared.names.Name.{Name}
 use Rattle.keep_event.specs.declared.names.Stored.{Stored}
-use Rattle.keep_event.specs.declared.names.Sized.{Sized}
 use Rattle.keep_event.specs.declared.lists.TrashItem.{TrashItem}
 use Rattle.keep_event.specs.declared.lists.PullItem.{PullItem}
 use Rattle.keep_event.specs.declared.device.DeviceRules.{DeviceRules}
@@ -13,8 +11,6 @@ use Rattle.keep_event.specs.declared.device.DeviceAnswer.{DeviceAnswer}
 use Rattle.keep_event.specs.declared.device.DeviceAnswer.TheVariants as answers
 use Rattle.keep_volume.specs.declared.volume.OpenError.{OpenError}
 use Rattle.keep_volume.specs.declared.volume.OpenError.TheVariants.{StoreFault, NoMemory}
-use Rattle.keep_event.specs.declared.names.Held.{Held}
-use Rattle.keep_event.specs.declared.lists.Entry.{Entry}
 use Rattle.keep_spec.specs.declared.memory.NoMemory as memory
 use Rattle.keep_store.specs.declared.store.Failed.{Failed}
 
@@ -60,12 +56,6 @@ pub record IsLine (line : State → Reply) (old new : Device) (result : Result D
   pub later : old.faults ≤ new.faults
   pub rules : new.rules ≡ old.rules
 
--- what a volume remembers is what the store tells
-pub record Remembers (held : Option (List (Name × Stored))) (index : List (Name × Sized)) (used : ℕ) : Type 0 where
-  pub names : IfSome held (λ es. index ≡ sizes es)
-  pub sum : used ≡ sum_by (λ e. e.1.size) index
-  pub small : used < 2 ^ 127
-
 -- the machine's line exactly, but for the list
 abbrev pub IsItem : (State → Reply) → Device → Device → Result DeviceAnswer Failed → Type 0
 IsItem line old new (Ok a) = IfSome (state_of old) (λ s. (a ≡ (line s).answer) × (state_of new ≡ Some (line s).state)) × (old.faults ≤ new.faults) × (new.rules ≡ old.rules) × (new.trash ≡ old.trash) × (a ≡ answers.StoreFault → ⊥)
@@ -79,12 +69,8 @@ IsStoreCall h old new (Err e) = (new ≡ over old (λ es. es) new.faults) × Ros
 abbrev pub without_first : Device → Device
 without_first d = record { held = d.held; round = d.round; trash = drop 1 d.trash; pull = d.pull; rules = d.rules; faults = d.faults }
 
--- the bytes that a name takes, as they are remembered
-abbrev pub size_at : Name → List (Name × Sized) → ℕ
-size_at n index = unwrap_or (option_map (λ (s : Sized). s.size) (find n index)) 0
-
-abbrev pub sized_held : Held → Name × Sized
-sized_held h = (h.name, record { mtime = h.mtime; size = h.size })
+abbrev pub without_lists : Device → Device
+without_lists d = record { held = d.held; round = d.round; trash = []; pull = []; rules = d.rules; faults = d.faults }
 
 -- a device that was opened: lists empty, the round is the note
 pub record IsOpened (told : Option (List (Name × Stored))) (noted : Option ℕ) (given : DeviceRules) (d : Device) : Type 0 where
@@ -99,13 +85,32 @@ abbrev pub IsGivenBack : {S : Type 0} → Option (List (Name × Stored)) → Opt
 IsGivenBack held noted faults h n f (StoreFault s) = (h s ≡ held) × (n s ≡ noted) × Rose faults (f s)
 IsGivenBack held noted faults h n f (NoMemory s) = (h s ≡ held) × (n s ≡ noted) × (faults ≤ f s)
 
--- whether the deadline of a name has passed
-abbrev pub due : ℕ → Name × Sized → Bool
-due reading e = is_due_at reading e.0.deadline
-
-abbrev pub sized_entry : Name × Sized → Entry
-sized_entry e = record { digest = e.0.digest; mtime = e.1.mtime; size = e.1.size }
+-- the line exactly, whatever the contents are, told or not, and without the store
+pub record IsExactly (line : State → Reply) (old new : Device) (result : Result DeviceAnswer memory.NoMemory) : Type 0 where
+  pub told : (es : List (Name × Stored)) → (result ≡ Ok (line (state_with old es)).answer) × (state_with new es ≡ (line (state_with old es)).state)
+  pub held : new.held ≡ old.held
+  pub faults : new.faults ≡ old.faults
+  pub rules : new.rules ≡ old.rules
 
 -- a line that doesn't read the contents: the same whatever they are, told or not
 abbrev pub IsLineAnyway : (State → Reply) → Device → Device → Result DeviceAnswer memory.NoMemory → Type 0
 IsLineAnyway line old new result = (es : List (Name × Stored)) → IsToldLine line (state_with old es) (Some (state_with new es)) result
+
+-- a device that is read only answers so and stays as it is, told or not, and no other answers so
+pub record HasReadOnly (old new : Device) (result : Result DeviceAnswer memory.NoMemory) : Type 0 where
+  pub given : old.rules.read_only ≡ true → (result ≡ Ok answers.ReadOnly) × (new ≡ old)
+  pub only : result ≡ Ok answers.ReadOnly → old.rules.read_only ≡ true
+
+-- a round other than the kept one is answered Stale, told or not, and no other
+pub record HasStale (round : ℕ) (old new : Device) (result : Result DeviceAnswer memory.NoMemory) : Type 0 where
+  pub given : round ≢ old.round → (result ≡ Ok (answers.Stale old.round)) × (new ≡ old)
+  pub only : (held : ℕ) → result ≡ Ok (answers.Stale held) → round ≢ old.round
+
+-- an empty trash list is answered Idle, told or not, and no other
+pub record HasIdle (old new : Device) (result : Result DeviceAnswer memory.NoMemory) : Type 0 where
+  pub given : old.trash ≡ [] → (result ≡ Ok answers.Idle) × (new ≡ old)
+  pub only : result ≡ Ok answers.Idle → old.trash ≡ []
+
+-- opening the store again leaves what a restart leaves
+abbrev pub IsReopened : Option (List (Name × Stored)) → Option ℕ → Device → Type 0
+IsReopened told noted d = IfSome noted (λ n. (v : Device) → IsOpened told noted d.rules v → state_of v ≡ option_map (λ s. (restart s).state) (state_of d))

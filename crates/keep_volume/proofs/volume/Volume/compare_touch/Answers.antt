@@ -6,25 +6,25 @@ use Rattle.keep_volume.proofs.Lines.{stays-line, over-line, over-over, told-all,
 use Rattle.keep_volume.proofs.Machine.{compare-read-only, compare-absent, compare-other, compare-same, touch_at, other-not-fault}
 use Rattle.keep_volume.proofs.volume.Volume.compare_touch.Goals as goal
 
-pub returns-then-self : goal.returns-then-self
-returns-then-self g c =
+pub returns-then-self-clause-line : goal.returns-then-self-clause-line
+returns-then-self-clause-line g c =
     let d = c.args.self.now in
     stays-line _ d ReadOnly (told-all d.held (λ es. compare-read-only d.rules c.args.block.now c.args.reading (state_with d es) (search rules))) (λ e. cc e)
 
-pub returns-in-Ok-None : goal.returns-in-Ok-None
-returns-in-Ok-None g c =
+pub returns-in-Ok-None-clause-line : goal.returns-in-Ok-None-clause-line
+returns-in-Ok-None-clause-line g c =
     let d = c.args.self.now in
     over-line _ d c.stored.new.self (λ es. es) c.stored.ensures.same c.stored.ensures.cause.later Absent
     (told-map d.held (λ es k. compare-absent d.rules c.args.block.now c.args.reading (state_with d es) (search rules) (search rules)) c.in-Ok-None.ensures.value) (λ e. cc e)
 
-pub returns-then-ne : goal.returns-then-ne
-returns-then-ne g c =
+pub returns-then-ne-clause-line : goal.returns-then-ne-clause-line
+returns-then-ne-clause-line g c =
     let d = c.args.self.now in
     over-line _ d c.stored.new.self (λ es. es) c.stored.ensures.same c.stored.ensures.cause.later c.other_bytes.result
     (told-map d.held (λ es k. compare-other d.rules c.args.block.now c.args.reading (state_with d es) (search rules) c.in-Ok-Some.stored (search rules) (search rules) ∙ ap (λ v. stays v (state_with d es)) (search rules)) c.in-Ok-Some.ensures.value) (λ e. absurd (other-not-fault _ _ (sym c.other_bytes.ensures ∙ e)))
 
-pub returns-in-Ok : goal.returns-in-Ok
-returns-in-Ok g c =
+pub returns-in-Ok-clause-line : goal.returns-in-Ok-clause-line
+returns-in-Ok-clause-line g c =
     let d = c.args.self.now in
     let m = c.max-mtime.result in
     let n = c.replica-name.result in

@@ -10,28 +10,28 @@ use Rattle.keep_volume.proofs.Lines.{item-stays, item-over, told-all, told-map}
 use Rattle.keep_volume.proofs.Machine.{item-read-only, item-gone, item-skipped, item-young, item-trashed, none-there}
 use Rattle.keep_volume.proofs.volume.Volume.trash_item.Goals as goal
 
-pub returns-then-self : goal.returns-then-self
-returns-then-self g c =
+pub returns-then-self-clause-item : goal.returns-then-self-clause-item
+returns-then-self-clause-item g c =
     let d = c.args.self.now in
     item-stays _ d ReadOnly (told-all d.held (λ es. item-read-only d.rules c.args.item c.args.reading (state_with d es) (search rules))) (λ e. cc e)
 
-pub returns-in_default : goal.returns-in_default
-returns-in_default g c =
+pub returns-in_default-clause-item : goal.returns-in_default-clause-item
+returns-in_default-clause-item g c =
     let d = c.args.self.now in
     item-stays _ d (Gone c.args.item.digest) (told-map d.held (λ es k. item-gone d.rules c.args.item c.args.reading (state_with d es) (search rules) (none-there _ (search rules))) c.known.ensures) (λ e. cc e)
 
-pub returns-then-mtime-item : goal.returns-then-mtime-item
-returns-then-mtime-item g c =
+pub returns-then-mtime-item-clause-item : goal.returns-then-mtime-item-clause-item
+returns-then-mtime-item-clause-item g c =
     let d = c.args.self.now in
     item-stays _ d (Skipped c.args.item.digest c.in-Some.sized.mtime) (told-map d.held (λ es k. item-skipped d.rules c.args.item c.args.reading (state_with d es) c.in-Some.sized c.replica-name.result (search rules) c.replica-name.ensures (sym c.in-Some.is ∙ k) (search rules)) c.known.ensures) (λ e. cc e)
 
-pub returns-then-reading-mtime : goal.returns-then-reading-mtime
-returns-then-reading-mtime g c =
+pub returns-then-reading-mtime-clause-item : goal.returns-then-reading-mtime-clause-item
+returns-then-reading-mtime-clause-item g c =
     let d = c.args.self.now in
     item-stays _ d (Young c.args.item.digest c.in-Some.sized.mtime) (told-map d.held (λ es k. item-young d.rules c.args.item c.args.reading (state_with d es) c.in-Some.sized c.replica-name.result (search rules) c.replica-name.ensures (sym c.in-Some.is ∙ k) (search rules) (rw (← c.self.view_is) (grind (arith, nat_tests)))) c.known.ensures) (λ e. cc e)
 
-pub returns : goal.returns
-returns g c =
+pub returns-clause-item : goal.returns-clause-item
+returns-clause-item g c =
     let d = c.args.self.now in
     let m = c.in-Some.sized.mtime in
     let n = c.replica-name.result in

@@ -7,19 +7,19 @@ use Rattle.keep_volume.proofs.Lines.{stays-line, over-line, after-line, over-ove
 use Rattle.keep_volume.proofs.Machine.{write-read-only, write-absent, write-collision, write-corrupt, write-same, touch_at}
 use Rattle.keep_volume.proofs.volume.Volume.write.Goals as goal
 
-pub returns-then-self : goal.returns-then-self
-returns-then-self g c =
+pub returns-then-self-clause-line : goal.returns-then-self-clause-line
+returns-then-self-clause-line g c =
     let d = c.args.self.now in
     stays-line _ d ReadOnly (told-all d.held (λ es. write-read-only d.rules c.args.block.now c.args.reading (state_with d es) (search rules))) (λ e. cc e)
 
-pub returns-then-eq : goal.returns-then-eq
-returns-then-eq g c =
+pub returns-then-eq-clause-line : goal.returns-then-eq-clause-line
+returns-then-eq-clause-line g c =
     let d = c.args.self.now in
     over-line _ d c.stored.new.self (λ es. es) c.stored.ensures.same c.stored.ensures.cause.later Collision
     (told-map d.held (λ es k. write-collision d.rules c.args.block.now c.args.reading (state_with d es) (search rules) c.in-Ok-Some.stored (search rules) (search rules) (search rules)) c.in-Ok-Some.ensures.value) (λ e. cc e)
 
-pub returns-in-Ok : goal.returns-in-Ok
-returns-in-Ok g c =
+pub returns-in-Ok-clause-line : goal.returns-in-Ok-clause-line
+returns-in-Ok-clause-line g c =
     let d = c.args.self.now in
     let m = c.max-mtime.result in
     let n = c.replica-name.result in
@@ -28,19 +28,19 @@ returns-in-Ok g c =
     (told-map d.held (λ es k. write-same d.rules c.args.block.now c.args.reading (state_with d es) c.in-Ok-Some.stored n m (search rules) (search rules) c.max-mtime.ensures (search rules) (search rules)) c.in-Ok-Some.ensures.value)
     (λ e. cc e)
 
-pub returns-in-Ok-None : goal.returns-in-Ok-None
-returns-in-Ok-None g c =
+pub returns-in-Ok-None-clause-line : goal.returns-in-Ok-None-clause-line
+returns-in-Ok-None-clause-line g c =
     let d = c.args.self.now in
     let same_rules : c.stored.new.self.rules ≡ d.rules = ap (λ (d : Device). d.rules) c.stored.ensures.same in
     after-line _ (machine.placed d.rules c.args.block.now c.args.reading) d c.stored.new.self c.place.new.self c.place.result c.stored.ensures.same c.stored.ensures.cause.later
-    (subst (λ r. IsLine (machine.placed r c.args.block.now c.args.reading) c.stored.new.self c.place.new.self c.place.result) same_rules c.place.ensures)
+    (subst (λ r. IsLine (machine.placed r c.args.block.now c.args.reading) c.stored.new.self c.place.new.self c.place.result) same_rules c.place.ensures.line)
     (told-map d.held (λ es k. write-absent d.rules c.args.block.now c.args.reading (state_with d es) (search rules) (search rules)) c.in-Ok-None.ensures.value)
 
-pub returns-then-ne : goal.returns-then-ne
-returns-then-ne g c =
+pub returns-then-ne-clause-line : goal.returns-then-ne-clause-line
+returns-then-ne-clause-line g c =
     let d = c.args.self.now in
     let m = c.max-mtime.result in
     let same_rules : c.stored.new.self.rules ≡ d.rules = ap (λ (d : Device). d.rules) c.stored.ensures.same in
     after-line _ (machine.placed d.rules c.args.block.now m) d c.stored.new.self c.place-then-ne.new.self c.place-then-ne.result c.stored.ensures.same c.stored.ensures.cause.later
-    (subst (λ r. IsLine (machine.placed r c.args.block.now m) c.stored.new.self c.place-then-ne.new.self c.place-then-ne.result) same_rules c.place-then-ne.ensures)
+    (subst (λ r. IsLine (machine.placed r c.args.block.now m) c.stored.new.self c.place-then-ne.new.self c.place-then-ne.result) same_rules c.place-then-ne.ensures.line)
     (told-map d.held (λ es k. write-corrupt d.rules c.args.block.now c.args.reading (state_with d es) (search rules) c.in-Ok-Some.stored (search rules) (search rules) (search rules) ∙ ap (λ v. machine.placed d.rules c.args.block.now v (state_with d es)) (sym c.max-mtime.ensures)) c.in-Ok-Some.ensures.value)

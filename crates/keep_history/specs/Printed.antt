@@ -1,0 +1,70 @@
+-- What is printed of each event and of each task that ends. That words stand so is this project's rule.
+use Rattle.std.specs.Prelude.{ℕ, List, [], ◌∷◌, ◌++◌, length, codes}
+use Rattle.std.specs.Fmt.{decimal}
+use Rattle.hex.specs.Hex.{encode_lower}
+use Rattle.keep_event.specs.declared.device.DeviceAnswer.{DeviceAnswer}
+use Rattle.keep_event.specs.declared.device.DeviceAnswer.TheVariants as A
+use Rattle.keep_event.specs.declared.task.Outcome.{Outcome}
+use Rattle.keep_event.specs.declared.task.Outcome.TheVariants as O
+
+-- a field, behind the space that separates it
+abbrev pub number_field : ℕ → List ℕ
+number_field n = 32 ∷ decimal n
+
+abbrev pub digest_field : List ℕ → List ℕ
+digest_field d = 32 ∷ encode_lower d
+
+-- the word of an answer and its fields
+abbrev pub answer_words : DeviceAnswer → List ℕ
+answer_words A.ReadOnly = codes "ReadOnly"
+answer_words A.Absent = codes "Absent"
+answer_words (A.Touched mtime) = codes "Touched" ++ number_field mtime
+answer_words (A.Written mtime) = codes "Written" ++ number_field mtime
+answer_words A.Collision = codes "Collision"
+answer_words (A.Corrupt found) = codes "Corrupt" ++ digest_field found
+answer_words (A.Full used capacity) = codes "Full" ++ number_field used ++ number_field capacity
+answer_words (A.Block bytes) = codes "Block" ++ number_field (length bytes)
+answer_words (A.Stale held) = codes "Stale" ++ number_field held
+answer_words A.Cleared = codes "Cleared"
+answer_words (A.Accepted trash pull) = codes "Accepted" ++ number_field trash ++ number_field pull
+answer_words (A.Page entries) = codes "Page" ++ number_field (length entries)
+answer_words A.Idle = codes "Idle"
+answer_words (A.Gone digest) = codes "Gone" ++ digest_field digest
+answer_words (A.Skipped digest mtime) = codes "Skipped" ++ digest_field digest ++ number_field mtime
+answer_words (A.Young digest mtime) = codes "Young" ++ digest_field digest ++ number_field mtime
+answer_words (A.Trashed digest deadline round) = codes "Trashed" ++ digest_field digest ++ number_field deadline
+answer_words (A.Pull item) = codes "Pull" ++ digest_field item.digest
+answer_words (A.Present mtime) = codes "Present" ++ number_field mtime
+answer_words A.NoTrash = codes "NoTrash"
+answer_words (A.Back mtime) = codes "Back" ++ number_field mtime
+answer_words (A.Emptied digest deadline) = codes "Emptied" ++ digest_field digest ++ number_field deadline
+answer_words A.Restarted = codes "Restarted"
+answer_words A.StoreFault = codes "StoreFault"
+
+-- the word of an end and its fields; no bytes are the word alone
+abbrev pub bytes_field : List ℕ → List ℕ
+bytes_field [] = []
+bytes_field (b ∷ bs) = 32 ∷ encode_lower (b ∷ bs)
+
+abbrev pub outcome_words : Outcome → List ℕ
+outcome_words (O.Stored locator) = codes "Stored " ++ locator
+outcome_words (O.Bytes bytes) = codes "Bytes" ++ bytes_field bytes
+outcome_words O.UnknownToken = codes "UnknownToken"
+outcome_words O.TooLong = codes "TooLong"
+outcome_words (O.HashMismatch computed) = codes "HashMismatch" ++ digest_field computed
+outcome_words O.Collision = codes "Collision"
+outcome_words O.NoRoom = codes "NoRoom"
+outcome_words O.StoreFault = codes "StoreFault"
+outcome_words (O.BadLocator at) = codes "BadLocator" ++ number_field at
+outcome_words O.Forbidden = codes "Forbidden"
+outcome_words (O.Expired expiry) = codes "Expired" ++ number_field expiry
+outcome_words O.NotFound = codes "NotFound"
+outcome_words (O.Corrupt found) = codes "Corrupt" ++ digest_field found
+
+-- the line of an event of a named task on a device
+unfoldable pub event_line : List ℕ → ℕ → DeviceAnswer → List ℕ
+event_line name device answer = name ++ codes " d" ++ decimal device ++ 32 ∷ answer_words answer ++ codes "\n"
+
+-- the line of a named task's end
+unfoldable pub end_line : List ℕ → Outcome → List ℕ
+end_line name outcome = name ++ codes " = " ++ outcome_words outcome ++ codes "\n"

@@ -1,0 +1,129 @@
+-- The script line of a text: a JSON object with exactly the members of its kind. The language is this project's own.
+use Rattle.std.specs.Prelude.{ℕ, ◌+◌, ◌==◌, ◌&&◌, ◌||◌, nat_lt, nat_le, List, length, Bool, true, false, Option, None, Some, is_some, is_none, option_and_then, option_map, if◌then◌else◌, codes, Result, Ok, Err}
+use Rattle.std.specs.Char.{is_ascii_alphanumeric}
+use Rattle.std.specs.List.{list_all}
+use Rattle.std.specs.Str.{bytes_eq}
+use Rattle.hex.specs.Hex.{decode_of, encode_lower}
+use Rattle.hex.specs.declared.error.FromHexError.{FromHexError}
+use Rattle.serde_json.specs.Data.{Data}
+use Rattle.serde_json.specs.Find.{get, as_str}
+use Rattle.keep_spec.specs.Digest.{is_digest, bytes_of_digits}
+use Rattle.keep_spec.specs.Json.{value_of, text_at, number_at, has_members}
+use Rattle.keep_event.specs.declared.task.Command.{Command}
+use Rattle.keep_event.specs.declared.task.Command.TheVariants as C
+use Rattle.keep_event.specs.declared.task.Opening.{Opening}
+use Rattle.keep_event.specs.declared.task.Opening.TheVariants as O
+use Rattle.keep_event.specs.declared.task.TaskState.{TaskState}
+use Rattle.keep_event.specs.declared.task.TaskState.TheVariants as S
+use Rattle.keep_history.specs.Names.{Names, state_of_name}
+
+-- NAMES AND READINGS
+abbrev pub is_name_character : ℕ → Bool
+is_name_character x = is_ascii_alphanumeric x || (x == 95) || (x == 45)
+
+-- 1 to 64 letters, digits, `_` and `-`
+abbrev pub is_task_name : List ℕ → Bool
+is_task_name text = nat_le 1 (length text) && nat_le (length text) 64 && list_all is_name_character text
+
+-- a text at a name that makes a task's name
+abbrev pub name_at : List ℕ → Data → Option (List ℕ)
+name_at field d = option_and_then (λ text. if is_task_name text then Some text else None) (text_at field d)
+
+-- nanoseconds since 1970, below 4 * 10^18
+abbrev pub reading_at : Data → Option ℕ
+reading_at d = option_and_then (λ n. if nat_lt n 4000000000000000000 then Some n else None) (number_at (codes "at") d)
+
+-- BYTES AND REFERENCES
+abbrev pub lower_case : List ℕ → Result (List ℕ) FromHexError → Option (List ℕ)
+lower_case digits (Err e) = None
+lower_case digits (Ok bytes) = if bytes_eq (encode_lower bytes) digits then Some bytes else None
+
+-- the bytes of lower-case hexadecimal digits
+abbrev pub bytes_of_text : List ℕ → Option (List ℕ)
+bytes_of_text digits = lower_case digits (decode_of digits)
+
+-- the one server that can be named so far
+abbrev pub server_at : Data → Option ℕ
+server_at d = option_and_then (λ n. if n == 0 then Some n else None) (number_at (codes "server") d)
+
+-- the locator of a task that ended Stored
+abbrev pub stored_locator : Option TaskState → Option (List ℕ)
+stored_locator (Some (S.Stored locator)) = Some locator
+stored_locator _ = None
+
+-- an object with the one member `locator`, a name
+abbrev pub locator_of_reference : Names → Data → Option (List ℕ)
+locator_of_reference names d =
+    if has_members 1 d then option_and_then (λ name. stored_locator (state_of_name name names)) (text_at (codes "locator") d) else None
+
+abbrev pub or_else : {A : Type 0} → Option A → Option A → Option A
+or_else None other = other
+or_else (Some x) other = Some x
+
+-- a locator is a text, or a reference to a task
+abbrev pub locator_of_data : Names → Data → Option (List ℕ)
+locator_of_data names d = or_else (as_str d) (locator_of_reference names d)
+
+-- KINDS
+-- a digest that need not be given
+abbrev pub digest_of_text : Option (List ℕ) → Option (Option (List ℕ))
+digest_of_text None = None
+digest_of_text (Some text) = if is_digest text then Some (Some (bytes_of_digits text)) else None
+
+abbrev pub digest_of_data : Option Data → Option (Option (List ℕ))
+digest_of_data None = Some None
+digest_of_data (Some d) = digest_of_text (as_str d)
+
+-- so many members, and one more where a digest is given
+abbrev pub members_with : ℕ → Option (List ℕ) → ℕ
+members_with n None = n
+members_with n (Some hash) = n + 1
+
+-- `open`, `at`, `do`, `token`, `server`, `bytes`, and `digest` where it is given
+abbrev pub put_of_data : Data → Option Opening
+put_of_data d =
+    option_and_then (λ token. option_and_then (λ server. option_and_then (λ bytes. option_and_then (λ hash.
+    if has_members (members_with 6 hash) d then Some (O.Put token server bytes hash) else None)
+    (digest_of_data (get (codes "digest") d)))
+    (option_and_then bytes_of_text (text_at (codes "bytes") d)))
+    (server_at d)) (text_at (codes "token") d)
+
+-- `open`, `at`, `do`, `token`, `server` and `locator`
+abbrev pub get_of_data : Names → Data → Option Opening
+get_of_data names d =
+    option_and_then (λ token. option_and_then (λ server. option_and_then (λ locator.
+    if has_members 6 d then Some (O.Get token server locator) else None)
+    (option_and_then (locator_of_data names) (get (codes "locator") d)))
+    (server_at d)) (text_at (codes "token") d)
+
+abbrev pub opening_of_kind : Names → List ℕ → Data → Option Opening
+opening_of_kind names kind d =
+    if bytes_eq kind (codes "put") then put_of_data d
+    else if bytes_eq kind (codes "get") then get_of_data names d
+    else None
+
+-- LINES
+-- a name that no line has opened
+abbrev pub opens : Names → Data → Option Command
+opens names d =
+    option_and_then (λ name. option_and_then (λ reading. option_and_then (λ kind.
+    if is_none (state_of_name name names) then option_map (C.Open name reading) (opening_of_kind names kind d) else None)
+    (text_at (codes "do") d)) (reading_at d)) (name_at (codes "open") d)
+
+abbrev pub is_open : Option TaskState → Bool
+is_open (Some (S.Open task actor)) = true
+is_open _ = false
+
+-- `finish` and `at`, of a name whose task is open
+abbrev pub finishes : Names → Data → Option Command
+finishes names d =
+    option_and_then (λ name. option_and_then (λ reading.
+    if has_members 2 d && is_open (state_of_name name names) then Some (C.Finish name reading) else None)
+    (reading_at d)) (name_at (codes "finish") d)
+
+abbrev pub command_of_data : Names → Data → Option Command
+command_of_data names d = if is_some (get (codes "open") d) then opens names d else finishes names d
+
+-- the command of a line, or None where it is no script line beside these names
+unfoldable pub command_of : Names → List ℕ → Option Command
+command_of names text = option_and_then (command_of_data names) (value_of text)

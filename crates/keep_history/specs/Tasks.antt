@@ -1,0 +1,170 @@
+-- Tasks: how an opening ends at once or what task it makes, and what a task asks next or how it ends, a function of the task and of the answers so far. The order of the tests is this project's rule.
+use Rattle.std.specs.Prelude.{ℕ, ◌+◌, ◌/◌, ◌-◌, ◌^◌, ◌==◌, ◌||◌, nat_lt, min, not, filter, List, [], ◌∷◌, ◌++◌, length, Bool, true, false, Option, None, Some, Result, Ok, Err, if◌then◌else◌, codes, option_map, unwrap_or, slice_get}
+use Rattle.std.specs.Str.{bytes_eq}
+use Rattle.std.specs.Fmt.{decimal}
+use Rattle.hex.specs.Hex.{encode_lower}
+use Rattle.md5.specs.Md5.{md5}
+use Rattle.keep_spec.specs.Sign.{hex8, signature_of, verdict}
+use Rattle.keep_spec.specs.Locator.{is_locator, locator_front, is_empty_block, digest}
+use Rattle.keep_spec.specs.Config.{Configuration, token_of}
+use Rattle.keep_spec.specs.declared.config.Device.{Device}
+use Rattle.keep_spec.specs.declared.token.TokenId.{TokenId}
+use Rattle.keep_spec.specs.declared.unverified.Triple.{Triple}
+use Rattle.keep_spec.specs.declared.unverified.Unverified.{Unverified}
+use Rattle.keep_spec.specs.declared.unverified.Unverified.TheVariants as U
+use Rattle.keep_event.specs.declared.device.DeviceQuery.{DeviceQuery}
+use Rattle.keep_event.specs.declared.device.DeviceQuery.TheVariants as Q
+use Rattle.keep_event.specs.declared.device.DeviceAnswer.{DeviceAnswer}
+use Rattle.keep_event.specs.declared.device.DeviceAnswer.TheVariants as A
+use Rattle.keep_event.specs.declared.task.Opening.{Opening}
+use Rattle.keep_event.specs.declared.task.Opening.TheVariants as Open
+use Rattle.keep_event.specs.declared.task.Task.{Task}
+use Rattle.keep_event.specs.declared.task.Task.TheVariants as T
+use Rattle.keep_event.specs.declared.task.Outcome.{Outcome}
+use Rattle.keep_event.specs.declared.task.Outcome.TheVariants as O
+
+-- DEVICES
+-- the devices of the one server
+abbrev pub devices : List ℕ
+devices = 0 ∷ []
+
+abbrev pub is_read_only : Configuration → ℕ → Bool
+is_read_only c device = unwrap_or (option_map (λ (d : Device). d.read_only) (slice_get c.devices device)) false
+
+abbrev pub writable : Configuration → List ℕ
+writable c = filter (λ d. not (is_read_only c d)) devices
+
+-- SIGNED LOCATORS
+-- the second of a time in nanoseconds, and the lifetime of signatures later; what passes 32 bits counts as their last number
+abbrev pub expiry_of : Configuration → ℕ → ℕ
+expiry_of c mtime = min (mtime / 1000000000 + c.ttl) (2 ^ 32 - 1)
+
+-- the permission hint of a digest for a token
+abbrev pub permission_hint : Configuration → List ℕ → List ℕ → ℕ → List ℕ
+permission_hint c hash token expiry = codes "+A" ++ signature_of hash token expiry c.ttl c.secret ++ 64 ∷ hex8 expiry
+
+-- the locator of a block whose replica has a time
+unfoldable pub signed_locator : Configuration → List ℕ → List ℕ → ℕ → List ℕ
+signed_locator c token bytes mtime =
+    encode_lower (md5 bytes) ++ 43 ∷ decimal (length bytes) ++ permission_hint c (md5 bytes) token (expiry_of c mtime)
+
+abbrev pub empty_locator : List ℕ
+empty_locator = codes "d41d8cd98f00b204e9800998ecf8427e+0"
+
+-- AT OPENING
+abbrev pub has_other_digest : List ℕ → Option (List ℕ) → Bool
+has_other_digest bytes None = false
+has_other_digest bytes (Some hash) = not (bytes_eq (md5 bytes) hash)
+
+-- too long, another digest than the one given, no bytes, no writable device
+abbrev pub put_opened : Configuration → TokenId → List ℕ → List ℕ → Option (List ℕ) → Result Task Outcome
+put_opened c id token bytes hash =
+    if nat_lt 67108864 (length bytes) then Err O.TooLong
+    else if has_other_digest bytes hash then Err (O.HashMismatch (md5 bytes))
+    else if length bytes == 0 then Err (O.Stored empty_locator)
+    else if length (writable c) == 0 then Err O.NoRoom
+    else Ok (T.Put token id bytes)
+
+-- what a verdict makes of a get
+abbrev pub by_verdict : Result Triple Unverified → Result Task Outcome
+by_verdict (Ok triple) = Ok (T.Get triple.digest)
+by_verdict (Err U.Missing) = Err O.Forbidden
+by_verdict (Err (U.Expired expiry)) = Err (O.Expired expiry)
+by_verdict (Err U.Invalid) = Err O.Forbidden
+
+-- no locator, the empty block, the signature; the system token needs none
+abbrev pub get_opened : Configuration → TokenId → List ℕ → List ℕ → ℕ → Result Task Outcome
+get_opened c id token locator reading =
+    if is_locator locator
+    then
+    if is_empty_block locator then Err (O.Bytes [])
+    else if id.number == 0 then Ok (T.Get (digest locator))
+    else by_verdict (verdict locator token c.ttl c.secret reading)
+    else Err (O.BadLocator (locator_front locator))
+
+-- an unknown token comes before all else
+abbrev pub with_token : Option TokenId → (TokenId → Result Task Outcome) → Result Task Outcome
+with_token None make = Err O.UnknownToken
+with_token (Some id) make = make id
+
+-- the task that an opening makes at a reading, or how it ends at once
+unfoldable pub opened : Configuration → Opening → ℕ → Result Task Outcome
+opened c (Open.Put token server bytes hash) reading = with_token (token_of c token) (λ id. put_opened c id token bytes hash)
+opened c (Open.Get token server locator) reading = with_token (token_of c token) (λ id. get_opened c id token locator reading)
+
+-- QUERIES AND ENDS
+-- a task asks a device, or has ended
+pub data Next : Type 0 where
+  asks : ℕ → DeviceQuery → Next
+  ends : Outcome → Next
+
+abbrev pub ends_or : Option Outcome → Next → Next
+ends_or None next = next
+ends_or (Some o) next = ends o
+
+abbrev pub stored : Configuration → List ℕ → List ℕ → ℕ → Option Outcome
+stored c token bytes mtime = Some (O.Stored (signed_locator c token bytes mtime))
+
+-- how an answer to a comparison ends a put, if it does
+abbrev pub compare_end : Configuration → List ℕ → List ℕ → DeviceAnswer → Option Outcome
+compare_end c token bytes (A.Touched mtime) = stored c token bytes mtime
+compare_end c token bytes A.Collision = Some O.Collision
+compare_end c token bytes _ = None
+
+-- how an answer to a write ends a put, if it does
+abbrev pub write_end : Configuration → List ℕ → List ℕ → DeviceAnswer → Option Outcome
+write_end c token bytes (A.Written mtime) = stored c token bytes mtime
+write_end c token bytes A.Collision = Some O.Collision
+write_end c token bytes _ = None
+
+abbrev pub is_fault : DeviceAnswer → Bool
+is_fault A.StoreFault = true
+is_fault _ = false
+
+-- a write on each device in turn, until one ends the put
+unfoldable pub writes : Configuration → TokenId → List ℕ → List ℕ → Bool → List ℕ → List DeviceAnswer → Next
+writes c id token bytes fault [] answers = ends (if fault then O.StoreFault else O.NoRoom)
+writes c id token bytes fault (d ∷ ds) [] = asks d (Q.Write bytes (Some id))
+writes c id token bytes fault (d ∷ ds) (a ∷ answers) = ends_or (write_end c token bytes a) (writes c id token bytes (fault || is_fault a) ds answers)
+
+-- a comparison on each device in turn, then the writes
+unfoldable pub compares : Configuration → TokenId → List ℕ → List ℕ → List ℕ → List ℕ → List DeviceAnswer → Next
+compares c id token bytes all [] answers = writes c id token bytes false all answers
+compares c id token bytes all (d ∷ ds) [] = asks d (Q.CompareTouch bytes (Some id))
+compares c id token bytes all (d ∷ ds) (a ∷ answers) = ends_or (compare_end c token bytes a) (compares c id token bytes all ds answers)
+
+-- what has come of the devices that a get asked: nothing, a failed store, or first of all the other MD5 that was found
+pub data Found : Type 0 where
+  nothing : Found
+  a_fault : Found
+  corrupt : List ℕ → Found
+
+abbrev pub found_by : Found → DeviceAnswer → Found
+found_by found (A.Corrupt hash) = corrupt hash
+found_by found A.StoreFault = a_fault
+found_by found _ = found
+
+abbrev pub found_also : Found → DeviceAnswer → Found
+found_also (corrupt hash) a = corrupt hash
+found_also nothing a = found_by nothing a
+found_also a_fault a = found_by a_fault a
+
+abbrev pub fetched_none : Found → Outcome
+fetched_none nothing = O.NotFound
+fetched_none a_fault = O.StoreFault
+fetched_none (corrupt hash) = O.Corrupt hash
+
+abbrev pub fetch_end : DeviceAnswer → Option Outcome
+fetch_end (A.Block bytes) = Some (O.Bytes bytes)
+fetch_end _ = None
+
+-- a fetch from each device in turn, until one gives the block
+unfoldable pub fetches : List ℕ → Found → List ℕ → List DeviceAnswer → Next
+fetches hash found [] answers = ends (fetched_none found)
+fetches hash found (d ∷ ds) [] = asks d (Q.Fetch hash)
+fetches hash found (d ∷ ds) (a ∷ answers) = ends_or (fetch_end a) (fetches hash (found_also found a) ds answers)
+
+-- the next query of a task after these answers, or its end
+unfoldable pub next : Configuration → Task → List DeviceAnswer → Next
+next c (T.Put token id block) answers = compares c id token block (writable c) (writable c) answers
+next c (T.Get hash) answers = fetches hash nothing devices answers

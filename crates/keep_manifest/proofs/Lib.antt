@@ -1,0 +1,10 @@
+pub mod Agreement
+pub mod Cuts
+pub mod Decoding
+pub mod Distinct
+pub mod Pieces
+pub mod Tokens
+pub mod Totals
+pub mod Visible
+pub mod WellFormed
+pub mod Written

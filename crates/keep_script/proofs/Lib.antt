@@ -1,0 +1,2 @@
+pub mod LowerCase
+pub mod Pieces

@@ -1,0 +1,101 @@
+// The command of a line.
+ghost use Rattle.std.specs.Prelude.{◌≡◌, IfOk};
+ghost use Rattle.serde_json.specs.View.{view};
+ghost use Rattle.keep_history.specs.Script.{command_of, command_of_data, finishes, is_open, opens};
+ghost use Rattle.keep_history.specs.Names.{state_of_name};
+
+use crate::fields::{name_at, reading_at};
+use crate::opening::opening_of_kind;
+use keep_config::json::{has_members, text_at, value_of};
+use keep_event::{Command, TaskState};
+use keep_spec::{Bytes, NoMemory};
+use serde_json::Value;
+use std::alloc::Global;
+use std::collections::BTreeMap;
+
+/// Reads one script line, without its line break, beside the names that earlier lines opened. None where it is no line of a script there.
+#[tactic(auto, unfolding(keep_history::specs::Script::command_of))]
+pub fn read_command(
+    alloc: Global,
+    names: &BTreeMap<Bytes, TaskState>,
+    text: &[u8],
+) -> Result<Option<Command>, NoMemory>
+    ensures { IfOk result (λ o. o ≡ command_of names.now.entries text.now) }
+{
+    match value_of(alloc, text)? {
+        Some(value) => command_of_value(alloc, names, &value),
+        None => Ok(None),
+    }
+}
+
+fn command_of_value(
+    alloc: Global,
+    names: &BTreeMap<Bytes, TaskState>,
+    value: &Value,
+) -> Result<Option<Command>, NoMemory>
+    ensures { IfOk result (λ o. o ≡ command_of_data names.now.entries (view value.now)) }
+{
+    if value.get("open").is_some() {
+        opens(alloc, names, value)
+    } else {
+        finishes(alloc, names, value)
+    }
+}
+
+fn opens(
+    alloc: Global,
+    names: &BTreeMap<Bytes, TaskState>,
+    value: &Value,
+) -> Result<Option<Command>, NoMemory>
+    ensures { IfOk result (λ o. o ≡ opens names.now.entries (view value.now)) }
+{
+    let Some(name) = name_at(alloc, value, "open")? else {
+        return Ok(None);
+    };
+    let Some(reading) = reading_at(value) else {
+        return Ok(None);
+    };
+    let Some(kind) = text_at(value, "do") else {
+        return Ok(None);
+    };
+    if names.contains_key(&name) {
+        return Ok(None);
+    }
+    match opening_of_kind(alloc, names, kind.as_bytes(), value)? {
+        Some(opening) => Ok(Some(Command::Open {
+            name,
+            reading,
+            opening,
+        })),
+        None => Ok(None),
+    }
+}
+
+fn finishes(
+    alloc: Global,
+    names: &BTreeMap<Bytes, TaskState>,
+    value: &Value,
+) -> Result<Option<Command>, NoMemory>
+    ensures { IfOk result (λ o. o ≡ finishes names.now.entries (view value.now)) }
+{
+    let Some(name) = name_at(alloc, value, "finish")? else {
+        return Ok(None);
+    };
+    let Some(reading) = reading_at(value) else {
+        return Ok(None);
+    };
+    if has_members(value, 2) && is_open(names, &name) {
+        Ok(Some(Command::Finish { name, reading }))
+    } else {
+        Ok(None)
+    }
+}
+
+fn is_open(names: &BTreeMap<Bytes, TaskState>, name: &Bytes) -> bool
+    ensures { result ≡ is_open (state_of_name name.now names.now.entries) }
+{
+    match names.get(name) {
+        Some(TaskState::Open { .. }) => true,
+        _ => false,
+    }
+}

@@ -1,0 +1,155 @@
+// What a line opens a task with.
+ghost use Rattle.std.specs.Prelude.{◌≡◌, ◌<◌, ◌^◌, IfOk, Option, None, Some, option_map, option_copied};
+ghost use Rattle.serde_json.specs.View.{view};
+ghost use Rattle.serde_json.specs.Find.{get};
+ghost use Rattle.keep_history.specs.Script.{digest_of_data, get_of_data, locator_of_data, locator_of_reference, members_with, opening_of_kind, put_of_data, stored_locator};
+ghost use Rattle.keep_history.specs.Names.{state_of_name};
+
+use crate::fields::{copied, server_at};
+use crate::hexadecimal::bytes_of_text;
+use keep_config::json::{has_members, text_at};
+use keep_event::{Opening, TaskState};
+use keep_spec::{Bytes, Digest, NoMemory};
+use serde_json::Value;
+use std::alloc::Global;
+use std::collections::BTreeMap;
+
+pub(crate) fn opening_of_kind(
+    alloc: Global,
+    names: &BTreeMap<Bytes, TaskState>,
+    kind: &[u8],
+    value: &Value,
+) -> Result<Option<Opening>, NoMemory>
+    ensures { IfOk result (λ o. o ≡ opening_of_kind names.now.entries kind.now (view value.now)) }
+{
+    if kind == b"put".as_slice() {
+        put_of_value(alloc, value)
+    } else if kind == b"get".as_slice() {
+        get_of_value(alloc, names, value)
+    } else {
+        Ok(None)
+    }
+}
+
+fn put_of_value(alloc: Global, value: &Value) -> Result<Option<Opening>, NoMemory>
+    ensures { IfOk result (λ o. o ≡ put_of_data (view value.now)) }
+{
+    let Some(token) = text_at(value, "token") else {
+        return Ok(None);
+    };
+    let Some(server) = server_at(value) else {
+        return Ok(None);
+    };
+    let Some(digits) = text_at(value, "bytes") else {
+        return Ok(None);
+    };
+    let Some(digest) = digest_of_member(value.get("digest")) else {
+        return Ok(None);
+    };
+    if !has_members(value, members_with(6, &digest)) {
+        return Ok(None);
+    }
+    let Some(bytes) = bytes_of_text(alloc, digits.as_bytes())? else {
+        return Ok(None);
+    };
+    Ok(Some(Opening::Put {
+        token: copied(alloc, token)?,
+        server,
+        bytes,
+        digest,
+    }))
+}
+
+fn get_of_value(
+    alloc: Global,
+    names: &BTreeMap<Bytes, TaskState>,
+    value: &Value,
+) -> Result<Option<Opening>, NoMemory>
+    ensures { IfOk result (λ o. o ≡ get_of_data names.now.entries (view value.now)) }
+{
+    let Some(token) = text_at(value, "token") else {
+        return Ok(None);
+    };
+    let Some(server) = server_at(value) else {
+        return Ok(None);
+    };
+    let Some(found) = value.get("locator") else {
+        return Ok(None);
+    };
+    if !has_members(value, 6) {
+        return Ok(None);
+    }
+    let Some(locator) = locator_of_value(alloc, names, found)? else {
+        return Ok(None);
+    };
+    Ok(Some(Opening::Get {
+        token: copied(alloc, token)?,
+        server,
+        locator,
+    }))
+}
+
+// None where a digest is given that is none.
+fn digest_of_member(member: Option<&Value>) -> Option<Option<Digest>>
+    ensures { result ≡ digest_of_data (option_map view (option_copied member.entry)) }
+{
+    match member {
+        Some(value) => {
+            let digest = Digest::read(value.as_str()?.as_bytes())?;
+            Some(Some(digest))
+        }
+        None => Some(None),
+    }
+}
+
+fn members_with(count: usize, digest: &Option<Digest>) -> usize
+    requires { count < 2 ^ 32 }
+    ensures { result ≡ members_with count digest.now }
+{
+    match digest {
+        Some(_) => count + 1,
+        None => count,
+    }
+}
+
+fn locator_of_value(
+    alloc: Global,
+    names: &BTreeMap<Bytes, TaskState>,
+    value: &Value,
+) -> Result<Option<Bytes>, NoMemory>
+    ensures { IfOk result (λ o. o ≡ locator_of_data names.now.entries (view value.now)) }
+{
+    match value.as_str() {
+        Some(text) => Ok(Some(copied(alloc, text)?)),
+        None => locator_of_reference(alloc, names, value),
+    }
+}
+
+fn locator_of_reference(
+    alloc: Global,
+    names: &BTreeMap<Bytes, TaskState>,
+    value: &Value,
+) -> Result<Option<Bytes>, NoMemory>
+    ensures { IfOk result (λ o. o ≡ locator_of_reference names.now.entries (view value.now)) }
+{
+    if !has_members(value, 1) {
+        return Ok(None);
+    }
+    match text_at(value, "locator") {
+        Some(name) => stored_locator(alloc, names, &copied(alloc, name)?),
+        None => Ok(None),
+    }
+}
+
+fn stored_locator(
+    alloc: Global,
+    names: &BTreeMap<Bytes, TaskState>,
+    name: &Bytes,
+) -> Result<Option<Bytes>, NoMemory>
+    ensures { IfOk result (λ o. o ≡ stored_locator (state_of_name name.now names.now.entries)) }
+{
+    match names.get(name) {
+        Some(TaskState::Stored { locator }) => Ok(Some(locator.copied(alloc)?)),
+        _ => Ok(None),
+    }
+}

@@ -1,0 +1,355 @@
+use super::*;
+use keep_event::{Command, DeviceAnswer, Entry, Opening, Outcome, PullItem, Task, TaskState};
+use keep_spec::{Bytes, Digest, Items};
+use std::alloc::{AllocError, Global};
+use std::collections::BTreeMap;
+use std::test::Fail;
+
+const ABC: [u8; 16] = [
+    0x90, 0x01, 0x50, 0x98, 0x3c, 0xd2, 0x4f, 0xb0, 0xd6, 0x96, 0x3f, 0x7d, 0x28, 0xe1, 0x7f, 0x72,
+];
+
+fn bytes(alloc: Global, text: &[u8]) -> Result<Bytes, AllocError> {
+    Ok(Bytes::of(Vec::from_slice(alloc, text)?))
+}
+
+// The parts, a blank behind each.
+fn words(alloc: Global, parts: &[&[u8]]) -> Result<Vec<u8>, AllocError> {
+    let mut text = Vec::new(alloc);
+    for part in parts {
+        text.extend_from_slice(part)?;
+        text.extend_from_slice(b" ")?;
+    }
+    Ok(text)
+}
+
+fn shown_opening(alloc: Global, opening: &Opening) -> Result<Vec<u8>, AllocError> {
+    match opening {
+        Opening::Put {
+            token,
+            server,
+            bytes,
+            digest: Some(digest),
+        } => words(
+            alloc,
+            &[
+                b"put",
+                token.as_slice(),
+                server.to_string(alloc)?.as_bytes(),
+                bytes.as_slice(),
+                &digest.write(),
+            ],
+        ),
+        Opening::Put {
+            token,
+            server,
+            bytes,
+            digest: None,
+        } => words(
+            alloc,
+            &[
+                b"put",
+                token.as_slice(),
+                server.to_string(alloc)?.as_bytes(),
+                bytes.as_slice(),
+            ],
+        ),
+        Opening::Get {
+            token,
+            server,
+            locator,
+        } => words(
+            alloc,
+            &[
+                b"get",
+                token.as_slice(),
+                server.to_string(alloc)?.as_bytes(),
+                locator.as_slice(),
+            ],
+        ),
+    }
+}
+
+fn shown(alloc: Global, command: &Command) -> Result<Vec<u8>, AllocError> {
+    match command {
+        Command::Open {
+            name,
+            reading,
+            opening,
+        } => words(
+            alloc,
+            &[
+                name.as_slice(),
+                reading.to_string(alloc)?.as_bytes(),
+                shown_opening(alloc, opening)?.as_slice(),
+            ],
+        ),
+        Command::Finish { name, reading } => words(
+            alloc,
+            &[
+                name.as_slice(),
+                reading.to_string(alloc)?.as_bytes(),
+                b"finish",
+            ],
+        ),
+    }
+}
+
+// A name that is open, one that ended Stored, and one that ended otherwise.
+fn some_names(alloc: Global) -> Result<BTreeMap<Bytes, TaskState>, Fail> {
+    let mut names = BTreeMap::new(alloc);
+    let task = Task::Get {
+        digest: Digest::of_md5(ABC),
+    };
+    names.insert(bytes(alloc, b"open")?, TaskState::Open { task, actor: 0 })?;
+    let locator = bytes(alloc, b"d41d8cd98f00b204e9800998ecf8427e+0")?;
+    names.insert(bytes(alloc, b"kept")?, TaskState::Stored { locator })?;
+    names.insert(bytes(alloc, b"ended")?, TaskState::Ended)?;
+    Ok(names)
+}
+
+#[test]
+fn lines_that_are_commands(rt: HostRuntime) -> Result<(), Fail> {
+    let alloc = rt.alloc();
+    let names = some_names(alloc)?;
+    let rows = [
+        (
+            r#"{"open":"a","at":5,"do":"put","token":"t","server":0,"bytes":"616263"}"#,
+            "a 5 put t 0 abc  ",
+        ),
+        (
+            r#"{"open":"a","at":0,"do":"put","token":"","server":0,"bytes":"","digest":"900150983cd24fb0d6963f7d28e17f72"}"#,
+            "a 0 put  0  900150983cd24fb0d6963f7d28e17f72  ",
+        ),
+        (
+            "\t{ \"do\" : \"get\", \"locator\":\"x+1\", \"server\":0, \"token\":\"t\", \"at\":3999999999999999999, \"open\":\"A-_9\" } \r",
+            "A-_9 3999999999999999999 get t 0 x+1  ",
+        ),
+        (
+            r#"{"open":"x","open":"a","at":5,"do":"get","token":"t","server":0,"locator":{"locator":"kept"}}"#,
+            "a 5 get t 0 d41d8cd98f00b204e9800998ecf8427e+0  ",
+        ),
+        (
+            r#"{"open":"aaaaaaaabbbbbbbbccccccccddddddddeeeeeeeeffffffffgggggggghhhhhhhh","at":5,"do":"get","token":"t","server":0,"locator":""}"#,
+            "aaaaaaaabbbbbbbbccccccccddddddddeeeeeeeeffffffffgggggggghhhhhhhh 5 get t 0   ",
+        ),
+        (r#"{"finish":"open","at":7}"#, "open 7 finish "),
+    ];
+    for (line, want) in rows {
+        let command = read_command(alloc, &names, line.as_bytes())?.ok_or("refused")?;
+        assert_eq!(rt;
+            shown(alloc, &command)?.as_slice(),
+            want.as_bytes(),
+            "{line}"
+        );
+    }
+    Ok(())
+}
+
+#[test]
+fn lines_that_are_none(rt: HostRuntime) -> Result<(), Fail> {
+    let alloc = rt.alloc();
+    let names = some_names(alloc)?;
+    let rows = [
+        "",
+        "put",
+        "[]",
+        "{}",
+        r#"{"finish":"open","at":7} {}"#,
+        r#"{"finish":"open","at":7,"do":"put"}"#,
+        r#"{"finish":"open"}"#,
+        r#"{"finish":"kept","at":7}"#,
+        r#"{"finish":"ended","at":7}"#,
+        r#"{"finish":"nobody","at":7}"#,
+        r#"{"finish":"open","at":4000000000000000000}"#,
+        r#"{"finish":"open","at":-1}"#,
+        r#"{"finish":"open","at":7.0}"#,
+        r#"{"finish":"open","at":"7"}"#,
+        r#"{"open":"a","at":5,"do":"index","token":"t","server":0,"locator":"x"}"#,
+        r#"{"open":"a","at":5,"do":"put","token":"t","server":0,"locator":"x"}"#,
+        r#"{"open":"a","at":5,"do":"get","token":"t","server":0}"#,
+        r#"{"open":"a","at":5,"do":"get","token":"t","locator":"x"}"#,
+        r#"{"open":"a","at":5,"do":"get","server":0,"locator":"x"}"#,
+        r#"{"open":"a","at":5,"token":"t","server":0,"locator":"x"}"#,
+        r#"{"open":"a","do":"get","token":"t","server":0,"locator":"x"}"#,
+        r#"{"open":"a","at":5,"do":"get","token":"t","server":0,"locator":"x","finish":"open"}"#,
+        r#"{"open":"open","at":5,"do":"get","token":"t","server":0,"locator":"x"}"#,
+        r#"{"open":"ended","at":5,"do":"get","token":"t","server":0,"locator":"x"}"#,
+        r#"{"open":"","at":5,"do":"get","token":"t","server":0,"locator":"x"}"#,
+        r#"{"open":"a b","at":5,"do":"get","token":"t","server":0,"locator":"x"}"#,
+        r#"{"open":"aaaaaaaabbbbbbbbccccccccddddddddeeeeeeeeffffffffgggggggghhhhhhhhi","at":5,"do":"get","token":"t","server":0,"locator":"x"}"#,
+        r#"{"open":"a","at":5,"do":"get","token":"t","server":1,"locator":"x"}"#,
+        r#"{"open":"a","at":5,"do":"get","token":"t","server":0,"locator":7}"#,
+        r#"{"open":"a","at":5,"do":"get","token":"t","server":0,"locator":{"locator":"open"}}"#,
+        r#"{"open":"a","at":5,"do":"get","token":"t","server":0,"locator":{"locator":"ended"}}"#,
+        r#"{"open":"a","at":5,"do":"get","token":"t","server":0,"locator":{"locator":"nobody"}}"#,
+        r#"{"open":"a","at":5,"do":"get","token":"t","server":0,"locator":{"locator":"kept","at":5}}"#,
+        r#"{"open":"a","at":5,"do":"put","token":"t","server":0,"bytes":"6a6B"}"#,
+        r#"{"open":"a","at":5,"do":"put","token":"t","server":0,"bytes":"616"}"#,
+        r#"{"open":"a","at":5,"do":"put","token":"t","server":0,"bytes":"6g"}"#,
+        r#"{"open":"a","at":5,"do":"put","token":"t","server":0,"bytes":"61","digest":"900150983cd24fb0d6963f7d28e17f7"}"#,
+        r#"{"open":"a","at":5,"do":"put","token":"t","server":0,"bytes":"61","digest":null}"#,
+        r#"{"open":"a","at":5,"do":"put","token":"t","server":0,"bytes":"61","sum":"900150983cd24fb0d6963f7d28e17f72"}"#,
+    ];
+    for line in rows {
+        assert!(rt;
+            read_command(alloc, &names, line.as_bytes())?.is_none(),
+            "{line}"
+        );
+    }
+    assert!(rt; read_command(alloc, &names, b"{\"finish\":\"\xff\",\"at\":7}")?.is_none());
+    Ok(())
+}
+
+#[test]
+fn lines_of_events(rt: HostRuntime) -> Result<(), Fail> {
+    let alloc = rt.alloc();
+    let digest = Digest::of_md5(ABC);
+    let entry = Entry {
+        digest,
+        size: 3,
+        mtime: 9,
+    };
+    let item = PullItem {
+        digest,
+        size: 3,
+        sources: Items::of(Vec::new(alloc)),
+    };
+    let rows = [
+        (DeviceAnswer::ReadOnly, "ReadOnly"),
+        (DeviceAnswer::Absent, "Absent"),
+        (DeviceAnswer::Touched { mtime: 1 }, "Touched 1"),
+        (
+            DeviceAnswer::Written { mtime: u64::MAX },
+            "Written 18446744073709551615",
+        ),
+        (DeviceAnswer::Collision, "Collision"),
+        (
+            DeviceAnswer::Corrupt { found: digest },
+            "Corrupt 900150983cd24fb0d6963f7d28e17f72",
+        ),
+        (
+            DeviceAnswer::Full {
+                used: u128::MAX,
+                capacity: 7,
+            },
+            "Full 340282366920938463463374607431768211455 7",
+        ),
+        (
+            DeviceAnswer::Block {
+                bytes: bytes(alloc, b"abc")?,
+            },
+            "Block 3",
+        ),
+        (DeviceAnswer::Stale { held: 4 }, "Stale 4"),
+        (DeviceAnswer::Cleared, "Cleared"),
+        (DeviceAnswer::Accepted { trash: 2, pull: 0 }, "Accepted 2 0"),
+        (
+            DeviceAnswer::Page {
+                entries: Items::of(Vec::from_slice(alloc, &[entry, entry])?),
+            },
+            "Page 2",
+        ),
+        (DeviceAnswer::Idle, "Idle"),
+        (
+            DeviceAnswer::Gone { digest },
+            "Gone 900150983cd24fb0d6963f7d28e17f72",
+        ),
+        (
+            DeviceAnswer::Skipped { digest, mtime: 5 },
+            "Skipped 900150983cd24fb0d6963f7d28e17f72 5",
+        ),
+        (
+            DeviceAnswer::Young { digest, mtime: 6 },
+            "Young 900150983cd24fb0d6963f7d28e17f72 6",
+        ),
+        (
+            DeviceAnswer::Trashed {
+                digest,
+                deadline: 10,
+                round: 11,
+            },
+            "Trashed 900150983cd24fb0d6963f7d28e17f72 10",
+        ),
+        (
+            DeviceAnswer::Pull { item },
+            "Pull 900150983cd24fb0d6963f7d28e17f72",
+        ),
+        (DeviceAnswer::Present { mtime: 12 }, "Present 12"),
+        (DeviceAnswer::NoTrash, "NoTrash"),
+        (DeviceAnswer::Back { mtime: 13 }, "Back 13"),
+        (
+            DeviceAnswer::Emptied {
+                digest,
+                deadline: 14,
+            },
+            "Emptied 900150983cd24fb0d6963f7d28e17f72 14",
+        ),
+        (DeviceAnswer::Restarted, "Restarted"),
+        (DeviceAnswer::StoreFault, "StoreFault"),
+    ];
+    for (answer, want) in &rows {
+        let mut line = Vec::new(alloc);
+        push_event_line(&mut line, b"a", 63, answer)?;
+        assert_eq!(rt;
+            line.as_slice(),
+            format!(in alloc; "a d63 {want}\n")?.as_bytes()
+        );
+    }
+    Ok(())
+}
+
+#[test]
+fn lines_of_ends(rt: HostRuntime) -> Result<(), Fail> {
+    let alloc = rt.alloc();
+    let digest = Digest::of_md5(ABC);
+    let rows = [
+        (
+            Outcome::Stored {
+                locator: bytes(alloc, b"x+1")?,
+            },
+            "Stored x+1",
+        ),
+        (
+            Outcome::Bytes {
+                bytes: bytes(alloc, b"abc\xff")?,
+            },
+            "Bytes 616263ff",
+        ),
+        (
+            Outcome::Bytes {
+                bytes: bytes(alloc, b"")?,
+            },
+            "Bytes",
+        ),
+        (Outcome::UnknownToken, "UnknownToken"),
+        (Outcome::TooLong, "TooLong"),
+        (
+            Outcome::HashMismatch { computed: digest },
+            "HashMismatch 900150983cd24fb0d6963f7d28e17f72",
+        ),
+        (Outcome::Collision, "Collision"),
+        (Outcome::NoRoom, "NoRoom"),
+        (Outcome::StoreFault, "StoreFault"),
+        (Outcome::BadLocator { at: 32 }, "BadLocator 32"),
+        (Outcome::Forbidden, "Forbidden"),
+        (
+            Outcome::Expired { expiry: 4294967295 },
+            "Expired 4294967295",
+        ),
+        (Outcome::NotFound, "NotFound"),
+        (
+            Outcome::Corrupt { found: digest },
+            "Corrupt 900150983cd24fb0d6963f7d28e17f72",
+        ),
+    ];
+    for (outcome, want) in &rows {
+        let mut line = Vec::new(alloc);
+        push_end_line(&mut line, b"a", outcome)?;
+        assert_eq!(rt;
+            line.as_slice(),
+            format!(in alloc; "a = {want}\n")?.as_bytes()
+        );
+    }
+    Ok(())
+}

@@ -1,0 +1,4 @@
+pub mod HintForm
+pub mod Pads
+pub mod SignedLocator
+pub mod TokenText

@@ -1,0 +1,9 @@
+use Rattle.std.proofs.Common.{◌≡◌, ◌++◌, length}
+use Rattle.keep_spec.specs.SignedText.{unsigned, with_locators}
+use Rattle.keep_sign.proofs.text.unsigned_manifest.Given as goal
+
+abbrev pub invariant-loop-part : goal.invariant-loop-part
+invariant-loop-part l = l.out.items ++ with_locators unsigned l.rest ≡ with_locators unsigned l.text
+
+abbrev pub decreases-loop-part : goal.decreases-loop-part
+decreases-loop-part l = length l.rest

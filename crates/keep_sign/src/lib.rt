@@ -1,0 +1,20 @@
+//! Signatures of locators: making them, checking them, and texts with other signatures.
+#![tactic(auto)]
+
+mod laws;
+mod mac;
+mod signature;
+#[cfg(test)]
+mod tests;
+mod text;
+mod verification;
+
+pub use keep_manifest::BadManifest;
+pub use keep_spec::{Permission, Triple, Unverified};
+pub use laws::{
+    other_signatures_are_invalid, signed_locators_are_valid, unsigned_locators_have_no_permission,
+};
+pub use mac::hmac;
+pub use signature::{hex8, sign};
+pub use text::{sign_manifest, unsigned_manifest};
+pub use verification::verify;

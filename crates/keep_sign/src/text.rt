@@ -1,0 +1,172 @@
+// The permission hints of a manifest's locators.
+ghost use Rattle.std.specs.Prelude.{◌≡◌, ◌++◌, ◌<◌, ◌≤◌, not, [], List, ℕ, length, if◌then◌else◌, IfOk, IfErr, IfSome, OnOk, IsSome, MatchOption};
+ghost use Rattle.std.specs.List.{prefix_len};
+ghost use Rattle.keep_spec.specs.Locator.{is_permission_hint};
+ghost use Rattle.keep_spec.specs.Manifest.{manifest_of};
+ghost use Rattle.keep_spec.specs.Refusals.{bad};
+ghost use Rattle.keep_spec.specs.SignedText.{unsigned, permission_hint, signed, changed, ends_token, with_locators};
+ghost use Rattle.keep_manifest.specs.Reading.{IsCause};
+
+use crate::signature::{hex8, sign};
+use keep_locator::{Locator, first_hint, is_permission_hint};
+use keep_manifest::{BadManifest, read};
+use keep_spec::{Bytes, Digest, NoMemory};
+use std::alloc::Global;
+
+/// The text of a manifest with each permission hint taken away, and one for the token put at the end of each locator but an empty
+/// block's. The expiry is in seconds since 1970, the ttl in seconds. All other bytes stay. A text that isn't a manifest is refused
+/// as reading it is.
+pub fn sign_manifest(
+    alloc: Global,
+    text: &[u8],
+    token: &[u8],
+    expiry: u32,
+    ttl: u32,
+    secret: &[u8],
+) -> Result<Bytes, BadManifest>
+    ensures manifest { OnOk result (IsSome (manifest_of text.now)) }
+    ensures text { IfOk result
+        (λ b. b ≡ with_locators (signed token.now expiry ttl secret.now) text.now) }
+    ensures refusal { IfErr result (IsCause (bad text.now)) }
+{
+    let _manifest = read(alloc, text)?;
+    let mut out = Vec::with_capacity(alloc, text.len())?;
+    let mut rest = text;
+    while let Some((part, end, behind)) = first_token(rest) {
+        push_signed(&mut out, part, token, expiry, ttl, secret)?;
+        out.extend_from_slice(end)?;
+        rest = behind;
+    }
+    Ok(Bytes::of(out))
+}
+
+/// The text of a manifest with each permission hint taken away. All other bytes stay. A text that isn't a manifest is refused as
+/// reading it is.
+pub fn unsigned_manifest(alloc: Global, text: &[u8]) -> Result<Bytes, BadManifest>
+    ensures manifest { OnOk result (IsSome (manifest_of text.now)) }
+    ensures text { IfOk result (λ b. b ≡ with_locators unsigned text.now) }
+    ensures refusal { IfErr result (IsCause (bad text.now)) }
+{
+    let _manifest = read(alloc, text)?;
+    let mut out = Vec::with_capacity(alloc, text.len())?;
+    let mut rest = text;
+    while let Some((part, end, behind)) = first_token(rest) {
+        push_without_permissions(&mut out, part)?;
+        out.extend_from_slice(end)?;
+        rest = behind;
+    }
+    Ok(Bytes::of(out))
+}
+
+// The first token, the space or newline that ends it, and the text behind; none of an empty text.
+fn first_token(text: &[u8]) -> Option<(&[u8], &[u8], &[u8])>
+    ensures parts { MatchOption result (text.now ≡ []) (λ p. (f : List ℕ → List ℕ)
+        → with_locators f text.now ≡ changed f p.0.now ++ p.1.now ++ with_locators f p.2.now) }
+    ensures shorter { IfSome result (λ p. length p.2.now < length text.now) }
+{
+    if text.len() == 0 {
+        return None;
+    }
+    let (token, ended) = text.split_at(token_len(text));
+    let (end, behind) = ended.split_at(ended.len().min(1));
+    Some((token, end, behind))
+}
+
+// How many bytes stand before the first space or newline.
+fn token_len(text: &[u8]) -> usize
+    ensures place { result ≡ prefix_len (λ c. not (ends_token c)) text.now }
+    ensures within { result ≤ length text.now }
+{
+    for (at, byte) in text.iter().enumerate() {
+        if ends_token(*byte) {
+            return at;
+        }
+    }
+    text.len()
+}
+
+fn ends_token(byte: u8) -> bool
+    ensures { result ≡ ends_token byte }
+{
+    matches!(byte, b' ' | b'\n')
+}
+
+// A token behind the text; where it is a locator, with one permission.
+fn push_signed(
+    out: &mut Vec<u8>,
+    part: &[u8],
+    token: &[u8],
+    expiry: u32,
+    ttl: u32,
+    secret: &[u8],
+) -> Result<(), NoMemory>
+    ensures { OnOk result
+        (out.new.items ≡ out.old.items ++ changed (signed token.now expiry ttl secret.now) part.now) }
+{
+    let Ok(locator) = Locator::read(part) else {
+        out.extend_from_slice(part)?;
+        return Ok(());
+    };
+    push_unsigned(out, &locator)?;
+    if locator.is_empty_block() {
+        return Ok(());
+    }
+    push_permission_hint(out, &locator.digest(), token, expiry, ttl, secret)?;
+    Ok(())
+}
+
+// A token behind the text; where it is a locator, without its permissions.
+fn push_without_permissions(out: &mut Vec<u8>, part: &[u8]) -> Result<(), NoMemory>
+    ensures { OnOk result (out.new.items ≡ out.old.items ++ changed unsigned part.now) }
+{
+    let Ok(locator) = Locator::read(part) else {
+        out.extend_from_slice(part)?;
+        return Ok(());
+    };
+    push_unsigned(out, &locator)?;
+    Ok(())
+}
+
+// A locator behind the text, without its permissions.
+fn push_unsigned(out: &mut Vec<u8>, locator: &Locator) -> Result<(), NoMemory>
+    ensures { OnOk result (out.new.items ≡ out.old.items ++ unsigned locator.now) }
+{
+    out.extend_from_slice(locator.stripped())?;
+    let mut rest = locator.hint_text();
+    while let Some((hint, behind)) = first_hint(rest) {
+        push_other(out, hint)?;
+        rest = behind;
+    }
+    Ok(())
+}
+
+// A hint behind the text, where it is no permission.
+fn push_other(out: &mut Vec<u8>, hint: &[u8]) -> Result<(), NoMemory>
+    ensures { OnOk result (out.new.items
+        ≡ out.old.items ++ (if is_permission_hint hint.now then [] else hint.now)) }
+{
+    if is_permission_hint(hint) {
+        return Ok(());
+    }
+    out.extend_from_slice(hint)?;
+    Ok(())
+}
+
+#[tactic(auto, unfolding(keep_spec::specs::SignedText::permission_hint))]
+fn push_permission_hint(
+    out: &mut Vec<u8>,
+    digest: &Digest,
+    token: &[u8],
+    expiry: u32,
+    ttl: u32,
+    secret: &[u8],
+) -> Result<(), NoMemory>
+    ensures { OnOk result (out.new.items
+        ≡ out.old.items ++ permission_hint digest.now token.now expiry ttl secret.now) }
+{
+    out.extend_from_slice(b"+A")?;
+    out.extend_from_slice(&sign(digest, token, expiry, ttl, secret))?;
+    out.extend_from_slice(b"@")?;
+    out.extend_from_slice(&hex8(expiry))?;
+    Ok(())
+}

@@ -1,0 +1,287 @@
+// What a device remembers of its store: the names with their times and sizes, and the bytes of all.
+ghost use Rattle.std.specs.Prelude.{◌≡◌, ◌≤◌, ◌<◌, ◌^◌, ◌+◌, ◌-◌, ◌↔◌, IsTrue, IfOk, OnOk, [], map, option_map, true};
+ghost use Rattle.std.specs.List.{find as list_find, last_or, filter};
+ghost use Rattle.hex.specs.Hex.{encode_lower};
+ghost use Rattle.keep_event.specs.Device as machine;
+ghost use Rattle.keep_event.specs.Store.{find, put, without, change, move as moved, with_mtime, AreAscending};
+ghost use Rattle.keep_volume.specs.Index.{size_at, total, due, sized_entry, sized_held, ArePassed, earlier_of};
+ghost use Rattle.keep_store.specs.Names.{has};
+
+use hex::encode_to_slice;
+use keep_event::{Entry, Held, Name, Sized};
+use keep_spec::{Digest, NoMemory};
+use keep_store::NameList;
+use std::alloc::Global;
+use std::marker::Model;
+
+/// How far the trashed copies have been looked through: no copy up to a name has a deadline below `earliest`.
+#[derive(Clone, Copy)]
+pub(crate) struct Passed {
+    pub(crate) up_to: Option<Name>,
+    pub(crate) earliest: u64,
+}
+
+/// What a look finds, and how far it came.
+#[derive(Clone, Copy)]
+struct Looked {
+    found: Option<Name>,
+    passed: Passed,
+}
+
+/// The names of a store with their times and sizes.
+#[derive(Drop)]
+pub(crate) struct Index {
+    names: NameList<Sized>,
+    used: u128,
+    passed: Passed,
+}
+
+impl Model for Index {
+    ghost use Rattle.std.specs.Prelude.{◌≡◌, ◌<◌, ◌^◌};
+    ghost use Rattle.keep_store.specs.Names.{Listed};
+    ghost use Rattle.keep_event.specs.declared.names.Sized.{Sized as TheSized};
+    ghost use Rattle.keep_volume.specs.Index.{total, ArePassed};
+
+    ghost Value = { Listed TheSized };
+
+    ghost view = { λ i. i.names };
+
+    ghost invariant = { λ i. record { sum : i.used ≡ total i.names.entries; small : i.used < 2 ^ 127; passed : ArePassed i.passed.up_to i.passed.earliest i.names.entries } };
+}
+
+impl Index {
+    pub(crate) fn of_names(alloc: Global, names: &[Held]) -> Result<Index, NoMemory>
+        requires { AreAscending (map (λ h. h.name) names.now) }
+        ensures { IfOk result (λ i. i.entries ≡ map sized_held names.now) }
+    {
+        let (items, used) = sized_names(alloc, names)?;
+        Ok(Index {
+            names: NameList::of_ascending(items),
+            used,
+            passed: Passed {
+                up_to: None,
+                earliest: u64::MAX,
+            },
+        })
+    }
+
+    pub(crate) fn is_empty(&self) -> bool
+        ensures { IsTrue result ↔ (self.now.entries ≡ []) }
+    {
+        self.names.is_empty()
+    }
+
+    /// The bytes of all names.
+    pub(crate) fn used(&self) -> u128
+        ensures value { result ≡ total self.now.entries }
+        ensures small { result < 2 ^ 127 }
+    {
+        self.used
+    }
+
+    pub(crate) fn get(&self, name: &Name) -> Option<Sized>
+        ensures { result ≡ find name.now self.now.entries }
+    {
+        self.names.get(name).copied()
+    }
+
+    /// The bytes that a name takes.
+    pub(crate) fn size_at(&self, name: &Name) -> u64
+        ensures value { result ≡ size_at name.now self.now.entries }
+        ensures part { result ≤ total self.now.entries }
+    {
+        match self.get(name) {
+            Some(sized) => sized.size,
+            None => 0,
+        }
+    }
+
+    pub(crate) fn touch(&mut self, name: &Name, mtime: u64)
+        ensures { self.new.entries ≡ change (with_mtime mtime) name.now self.old.entries (find name.now self.old.entries) }
+    {
+        let _ = self.names.touch(name, mtime);
+        self.passed.earliest = earlier(self.passed.earliest, name);
+    }
+
+    pub(crate) fn remove(&mut self, name: &Name)
+        ensures after { self.new.entries ≡ without name.now self.old.entries }
+        ensures room { has name.now self.old.entries ≡ true → 0 < self.new.room }
+        ensures fits { total self.new.entries + size_at name.now self.old.entries < 2 ^ 127 }
+    {
+        let freed = self.size_at(name);
+        let _ = self.names.remove(name);
+        self.used -= freed as u128;
+    }
+
+    pub(crate) fn rename(&mut self, from: &Name, to: &Name, mtime: u64)
+        ensures { self.new.entries ≡ moved (with_mtime mtime) from.now to.now self.old.entries (find from.now self.old.entries) }
+    {
+        let Some(sized) = self.get(from) else {
+            return;
+        };
+        self.remove(from);
+        let size = sized.size;
+        self.put_in_room(to, Sized { mtime, size });
+    }
+
+    pub(crate) fn reserve_one(&mut self) -> Result<(), NoMemory>
+        ensures same { self.new.entries ≡ self.old.entries }
+        ensures ok { OnOk result (0 < self.new.room) }
+    {
+        self.names.reserve_one()
+    }
+
+    pub(crate) fn put_in_room(&mut self, name: &Name, sized: Sized)
+        requires room { 0 < self.old.room }
+        requires fits { total self.old.entries - size_at name.now self.old.entries + sized.size < 2 ^ 127 }
+        ensures { self.new.entries ≡ put name.now sized self.old.entries }
+    {
+        let freed = self.size_at(name);
+        self.names.put_in_room(name, sized);
+        self.used = self.used - freed as u128 + sized.size as u128;
+        self.passed.earliest = earlier(self.passed.earliest, name);
+    }
+
+    /// The first trashed copy whose deadline has passed.
+    pub(crate) fn first_due(&mut self, reading: u64) -> Option<Name>
+        ensures value { result ≡ option_map (λ e. e.0) (list_find (due reading) self.old.entries) }
+        ensures same { self.new.entries ≡ self.old.entries }
+    {
+        if reading > self.passed.earliest {
+            self.passed = Passed {
+                up_to: None,
+                earliest: u64::MAX,
+            };
+        }
+        let looked = look_through(&self.names, self.passed, reading);
+        self.passed = looked.passed;
+        looked.found
+    }
+
+    /// The trashed copy of a digest with the greatest deadline.
+    pub(crate) fn last_copy(&self, digest: &Digest) -> Option<(Name, Sized)>
+        ensures { result ≡ last_or None (filter (λ e. machine.is_copy_of digest.now e.0) self.now.entries) }
+    {
+        let mut last = None;
+        for entry in self.names.of_digest(digest) {
+            if entry.0.deadline.is_some() {
+                last = Some(*entry);
+            }
+        }
+        last
+    }
+
+    /// The replicas whose digits begin with the prefix.
+    pub(crate) fn page(&self, alloc: Global, prefix: &[u8]) -> Result<Vec<Entry>, NoMemory>
+        ensures { IfOk result (λ v. v.items ≡ map sized_entry (filter (λ e. machine.is_paged prefix.now e.0) self.now.entries)) }
+    {
+        let mut entries = Vec::new(alloc);
+        for item in self.names.within(prefix) {
+            if is_paged(&item.0, prefix) {
+                let entry = Entry {
+                    digest: item.0.digest,
+                    size: item.1.size,
+                    mtime: item.1.mtime,
+                };
+                if entries.push(entry).is_err() {
+                    return Err(NoMemory);
+                }
+            }
+        }
+        Ok(entries)
+    }
+}
+
+// Looks for the first copy whose deadline has passed, from where an earlier look came to.
+fn look_through(names: &NameList<Sized>, passed: Passed, reading: u64) -> Looked
+    requires waiting { reading ≤ passed.earliest }
+    requires passed { ArePassed passed.up_to passed.earliest names.now.entries }
+    ensures found { result.found ≡ option_map (λ e. e.0) (list_find (due reading) names.now.entries) }
+    ensures passed { ArePassed result.passed.up_to result.passed.earliest names.now.entries }
+{
+    let mut came = passed;
+    for entry in names.above(passed.up_to.as_ref()) {
+        let name = entry.0;
+        if is_due(name.deadline, reading) {
+            let found = Some(name);
+            return Looked {
+                found,
+                passed: came,
+            };
+        }
+        came = Passed {
+            up_to: Some(name),
+            earliest: earlier(came.earliest, &name),
+        };
+    }
+    Looked {
+        found: None,
+        passed: came,
+    }
+}
+
+// The earliest deadline, once a name is there too.
+fn earlier(earliest: u64, name: &Name) -> u64
+    ensures { result ≡ earlier_of earliest name.now.deadline }
+{
+    match name.deadline {
+        Some(deadline) => earliest.min(deadline),
+        None => earliest,
+    }
+}
+
+// The entries of the names, and the bytes of all.
+fn sized_names(alloc: Global, names: &[Held]) -> Result<(Vec<(Name, Sized)>, u128), NoMemory>
+    ensures items { IfOk result (λ r. r.0.items ≡ map sized_held names.now) }
+    ensures used { IfOk result (λ r. r.1 ≡ total r.0.items) }
+    ensures small { IfOk result (λ r. r.1 < 2 ^ 127) }
+{
+    let mut items = Vec::with_capacity(alloc, names.len())?;
+    let mut used = 0u128;
+    for held in names {
+        let sized = Sized {
+            mtime: held.mtime,
+            size: held.size,
+        };
+        if items.push((held.name, sized)).is_err() {
+            return Err(NoMemory);
+        }
+        used += held.size as u128;
+    }
+    Ok((items, used))
+}
+
+fn is_due(deadline: Option<u64>, reading: u64) -> bool
+    ensures { result ≡ machine.is_due_at reading deadline }
+{
+    match deadline {
+        Some(deadline) => deadline < reading,
+        None => false,
+    }
+}
+
+// Whether it names a replica whose digits begin so.
+fn is_paged(name: &Name, prefix: &[u8]) -> bool
+    ensures { result ≡ machine.is_paged prefix.now name.now }
+{
+    if name.deadline.is_some() {
+        return false;
+    }
+    begins(&name.digest, prefix)
+}
+
+fn begins(digest: &Digest, prefix: &[u8]) -> bool
+    ensures { result ≡ machine.begins prefix.now digest.now }
+{
+    let digits = digits_of(digest);
+    let wanted = prefix.len().min(digits.len());
+    &digits[..wanted] == prefix
+}
+
+fn digits_of(digest: &Digest) -> [u8; 32]
+    ensures { result ≡ encode_lower digest.now }
+{
+    let mut digits = [0; 32];
+    let _ = encode_to_slice(digest.to_md5().as_slice(), &mut digits);
+    digits
+}
