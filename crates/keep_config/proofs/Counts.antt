@@ -1,5 +1,5 @@
 -- So many names as different ones: they are all distinct.
-use Rattle.std.proofs.Common.{◌≡◌, ◌<◌, ◌≤◌, ◌+◌, ◌==◌, ◌&&◌, ℕ, suc, List, [], ◌∷◌, length, map, Bool, true, false, cond, not, refl, sym, ◌∙◌, ap, arith, ◌⊎◌, inl, inr, Bor, bytes_eq}
+use Rattle.std.proofs.Common.{◌≡◌, ◌==◌, ◌&&◌, ℕ, suc, List, [], ◌∷◌, length, map, Bool, true, false, cond, not, refl, sym, ◌∙◌, ap, arith, inl, inr, Bor, bytes_eq}
 use Rattle.std.specs.List.{list_any}
 use Rattle.std.specs.Set.{is_member, unique_keys, distinct_count}
 use Rattle.std.proofs.lemmas.Bool.{cases_Bool, eq-eqb, ne_eqb, eqb-true, eqb-false}

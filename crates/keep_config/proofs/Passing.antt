@@ -1,5 +1,5 @@
 -- What was read as a field passes the field's test.
-use Rattle.std.proofs.Common.{◌≡◌, Bool, true, false, Option, None, Some, Result, Ok, Err, ◌⊎◌, inl, inr}
+use Rattle.std.proofs.Common.{◌≡◌, Bool, true, Option, None, Some, Ok, inl, inr}
 use Rattle.std.proofs.lemmas.Bool.{cases_Bool}
 use Rattle.keep_spec.specs.Config.{field}
 use Rattle.keep_spec.specs.declared.config.Field.{Field}

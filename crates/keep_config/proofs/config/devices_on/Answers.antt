@@ -1,4 +1,4 @@
-use Rattle.std.proofs.Common.{◌≡◌, ◌+◌, ◌<◌, length, drop, true, false, not, is_ok, sym, ◌∙◌, ap}
+use Rattle.std.proofs.Common.{◌≡◌, true, false, not, is_ok, sym, ◌∙◌, ap}
 use Rattle.std.proofs.Math.ListN.{drop_of_length-le}
 use Rattle.keep_config.proofs.Firsts.{is_seen, takes-new, skips-seen, skips-other, devices_with-end, drop-item}
 use Rattle.keep_config.proofs.config.devices_on.Goals as goal
