@@ -2,7 +2,7 @@
 use crate::Block;
 use keep_spec::{Bytes, Digest, TokenId};
 
-/// What a task is opened with. A server is named by its number in the configuration, from 0.
+/// What a task is opened with. A server and a device are named by their numbers in the configuration, from 0.
 #[derive(Drop, Debug)]
 pub enum Opening {
     Put {
@@ -15,6 +15,19 @@ pub enum Opening {
         token: Bytes,
         server: u32,
         locator: Bytes,
+    },
+    Touch {
+        token: Bytes,
+        server: u32,
+        locator: Bytes,
+    },
+    Untrash {
+        token: Bytes,
+        server: u32,
+        digest: Digest,
+    },
+    Restart {
+        device: u32,
     },
 }
 
@@ -29,13 +42,29 @@ pub enum Task {
     Get {
         digest: Digest,
     },
+    /// The stripped text is the locator without its hints.
+    Touch {
+        token: Bytes,
+        id: TokenId,
+        digest: Digest,
+        stripped: Bytes,
+    },
+    Untrash {
+        digest: Digest,
+    },
+    Restart {
+        device: u32,
+    },
 }
 
 /// How a task ends. An expiry is in seconds since 1970, a place is an offset in bytes.
 #[derive(Drop, Debug)]
 pub enum Outcome {
     Stored { locator: Bytes },
+    Touched { locator: Bytes },
     Bytes { bytes: Bytes },
+    Untrashed { copies: u64 },
+    Restarted,
     UnknownToken,
     TooLong,
     HashMismatch { computed: Digest },
@@ -49,11 +78,11 @@ pub enum Outcome {
     Corrupt { found: Digest },
 }
 
-/// What has become of a name that a script opened. The actor is the number of its opening among all openings, from 0.
+/// What has become of a name that a script opened; a task that ended with a locator can be referred to. The actor is the number of its opening among all openings, from 0.
 #[derive(Drop, Debug)]
 pub enum TaskState {
     Open { task: Task, actor: u32 },
-    Stored { locator: Bytes },
+    Located { locator: Bytes },
     Ended,
 }
 

@@ -1,9 +1,9 @@
 -- What script lines do: the events that they make, what these leave, and the text that is printed.
-use Rattle.std.specs.Prelude.{ℕ, zero, suc, ◌+◌, ◌==◌, List, [], ◌∷◌, ◌++◌, length, Bool, true, Option, None, Some, Result, Ok, Err, if◌then◌else◌, option_map, option_and_then, slice_get}
+use Rattle.std.specs.Prelude.{ℕ, zero, suc, ◌+◌, ◌==◌, ◌&&◌, List, [], ◌∷◌, ◌++◌, length, Bool, true, Option, None, Some, Result, Ok, Err, if◌then◌else◌, option_and_then, slice_get}
 use Rattle.std.specs.List.{list_any}
 use Rattle.keep_spec.specs.Config.{Configuration, grace, trash_life_nanos}
 use Rattle.keep_spec.specs.declared.config.Device.{Device}
-use Rattle.keep_event.specs.Device.{State, Reply, stays, step}
+use Rattle.keep_event.specs.Device.{State, Reply, stays, step, may_fault}
 use Rattle.keep_event.specs.declared.device.DeviceRules.{DeviceRules}
 use Rattle.keep_event.specs.declared.device.DeviceQuery.{DeviceQuery}
 use Rattle.keep_event.specs.declared.device.DeviceAnswer.{DeviceAnswer}
@@ -54,6 +54,10 @@ rules_of c = device_rules c (slice_get c.devices 0)
 abbrev pub is_failed : List ℕ → ℕ → Bool
 is_failed failed n = list_any (λ k. k == n) failed
 
+-- whether the event of a number fails: a query that asks nothing of the store can't
+abbrev pub fails_at : List ℕ → ℕ → DeviceQuery → Bool
+fails_at failed n q = may_fault q && is_failed failed n
+
 -- the machine's line, or a fault of the store that changes nothing
 abbrev pub asked : Bool → State → Reply → Reply
 asked fails s reply = if fails then stays A.StoreFault s else reply
@@ -73,7 +77,7 @@ pub record Asked : Type 0 where
   pub outcome : Option Outcome
 
 abbrev pub reply_to : Asking → ℕ → State → DeviceQuery → Reply
-reply_to a n s q = asked (is_failed a.failed n) s (step (rules_of a.config) a.reading q s)
+reply_to a n s q = asked (fails_at a.failed n q) s (step (rules_of a.config) a.reading q s)
 
 abbrev pub made_of : Asking → ℕ → ℕ → DeviceQuery → Reply → Made
 made_of a n device q reply = record {
@@ -100,7 +104,8 @@ most_turns = 128
 -- LINES
 -- what becomes of a name when its task ends
 abbrev pub state_after : Outcome → TaskState
-state_after (O.Stored locator) = S.Stored locator
+state_after (O.Stored locator) = S.Located locator
+state_after (O.Touched locator) = S.Located locator
 state_after _ = S.Ended
 
 -- an opening ends at once, with a line of text, or makes a task, with none; neither makes an event
@@ -150,7 +155,7 @@ asked_at c failed scene reading task actor =
 abbrev pub finish_state : Configuration → List ℕ → Scene → List ℕ → ℕ → Option TaskState → Option Effect
 finish_state c failed scene name reading None = None
 finish_state c failed scene name reading (Some (S.Open task actor)) = Some (finish_effect scene name (asked_at c failed scene reading task actor))
-finish_state c failed scene name reading (Some (S.Stored locator)) = None
+finish_state c failed scene name reading (Some (S.Located locator)) = None
 finish_state c failed scene name reading (Some S.Ended) = None
 
 -- what a command does, where it can be done

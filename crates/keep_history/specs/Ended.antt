@@ -1,5 +1,5 @@
 -- How a run ended, where its source, its sink and its store tell.
-use Rattle.std.specs.Prelude.{◌≡◌, ◌++◌, ℕ, List, [], take, Option, Some}
+use Rattle.std.specs.Prelude.{◌≡◌, ◌++◌, ℕ, List, take, Option, Some}
 use Rattle.keep_spec.specs.declared.status.Status.{Status}
 use Rattle.keep_spec.specs.declared.status.Status.TheVariants.{Done, BadWords, BadConfig, BadLine, WriteFault, ReadFault, NoMemory, LineTooLong, InputTooLong, NotEmpty, StoreFault}
 use Rattle.keep_event.specs.Device.{State}

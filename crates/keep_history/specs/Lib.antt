@@ -3,6 +3,7 @@ pub mod Ended
 pub mod Faults
 pub mod Names
 pub mod Printed
+pub mod Reads
 pub mod Run
 pub mod Script
 pub mod Tasks

@@ -48,7 +48,10 @@ bytes_field (b ∷ bs) = 32 ∷ encode_lower (b ∷ bs)
 
 abbrev pub outcome_words : Outcome → List ℕ
 outcome_words (O.Stored locator) = codes "Stored " ++ locator
+outcome_words (O.Touched locator) = codes "Touched " ++ locator
 outcome_words (O.Bytes bytes) = codes "Bytes" ++ bytes_field bytes
+outcome_words (O.Untrashed copies) = codes "Untrashed" ++ number_field copies
+outcome_words O.Restarted = codes "Restarted"
 outcome_words O.UnknownToken = codes "UnknownToken"
 outcome_words O.TooLong = codes "TooLong"
 outcome_words (O.HashMismatch computed) = codes "HashMismatch" ++ digest_field computed

@@ -47,18 +47,22 @@ abbrev pub at_start : State → Effect
 at_start s = record { made = []; scene = record { count = 0; state = s; names = [] }; text = [] }
 
 -- THE CONFIGURATION AND THE STORES
--- so far a cluster has one device, one server and one mount; and each device wants a store
-abbrev pub fits_stores : ℕ → Configuration → Result Configuration Field
-fits_stores stores c =
-    if nat_lt stores (length c.devices) then Err F.Devices
-    else if nat_lt 1 (length c.devices) then Err F.Devices
-    else if nat_lt 1 (length c.servers) then Err F.Servers
-    else if nat_lt 1 (length c.mounts) then Err F.Mounts
-    else Ok c
+-- what of a configuration can't be had: each device wants a store, and so far a cluster has one device, one server and one mount
+abbrev pub misfit : ℕ → Configuration → Option Field
+misfit stores c =
+    if nat_lt stores (length c.devices) then Some F.Devices
+    else if nat_lt 1 (length c.devices) then Some F.Devices
+    else if nat_lt 1 (length c.servers) then Some F.Servers
+    else if nat_lt 1 (length c.mounts) then Some F.Mounts
+    else None
+
+abbrev pub fitted : Configuration → Option Field → Result Configuration Field
+fitted c None = Ok c
+fitted c (Some field) = Err field
 
 abbrev pub then_fits : ℕ → Result Configuration Field → Result Configuration Field
 then_fits stores (Err field) = Err field
-then_fits stores (Ok c) = fits_stores stores c
+then_fits stores (Ok c) = fitted c (misfit stores c)
 
 -- the configuration of a first line, for so many stores
 abbrev pub config_for : ℕ → List ℕ → Result Configuration Field

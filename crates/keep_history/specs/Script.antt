@@ -33,6 +33,11 @@ name_at field d = option_and_then (λ text. if is_task_name text then Some text 
 abbrev pub reading_at : Data → Option ℕ
 reading_at d = option_and_then (λ n. if nat_lt n 4000000000000000000 then Some n else None) (number_at (codes "at") d)
 
+-- the reading that a command is done at
+abbrev pub reading_of : Command → ℕ
+reading_of (C.Open name reading opening) = reading
+reading_of (C.Finish name reading) = reading
+
 -- BYTES AND REFERENCES
 abbrev pub lower_case : List ℕ → Result (List ℕ) FromHexError → Option (List ℕ)
 lower_case digits (Err e) = None
@@ -46,15 +51,15 @@ bytes_of_text digits = lower_case digits (decode_of digits)
 abbrev pub server_at : Data → Option ℕ
 server_at d = option_and_then (λ n. if n == 0 then Some n else None) (number_at (codes "server") d)
 
--- the locator of a task that ended Stored
-abbrev pub stored_locator : Option TaskState → Option (List ℕ)
-stored_locator (Some (S.Stored locator)) = Some locator
-stored_locator _ = None
+-- the locator of a task that ended Stored or Touched
+abbrev pub ended_locator : Option TaskState → Option (List ℕ)
+ended_locator (Some (S.Located locator)) = Some locator
+ended_locator _ = None
 
 -- an object with the one member `locator`, a name
 abbrev pub locator_of_reference : Names → Data → Option (List ℕ)
 locator_of_reference names d =
-    if has_members 1 d then option_and_then (λ name. stored_locator (state_of_name name names)) (text_at (codes "locator") d) else None
+    if has_members 1 d then option_and_then (λ name. ended_locator (state_of_name name names)) (text_at (codes "locator") d) else None
 
 abbrev pub or_else : {A : Type 0} → Option A → Option A → Option A
 or_else None other = other
@@ -96,10 +101,41 @@ get_of_data names d =
     (option_and_then (locator_of_data names) (get (codes "locator") d)))
     (server_at d)) (text_at (codes "token") d)
 
+-- `open`, `at`, `do`, `token`, `server` and `locator`
+abbrev pub touch_of_data : Names → Data → Option Opening
+touch_of_data names d =
+    option_and_then (λ token. option_and_then (λ server. option_and_then (λ locator.
+    if has_members 6 d then Some (O.Touch token server locator) else None)
+    (option_and_then (locator_of_data names) (get (codes "locator") d)))
+    (server_at d)) (text_at (codes "token") d)
+
+-- a text at a name that makes a digest
+abbrev pub digest_at : List ℕ → Data → Option (List ℕ)
+digest_at field d = option_and_then (λ text. if is_digest text then Some (bytes_of_digits text) else None) (text_at field d)
+
+-- `open`, `at`, `do`, `token`, `server` and `digest`
+abbrev pub untrash_of_data : Data → Option Opening
+untrash_of_data d =
+    option_and_then (λ token. option_and_then (λ server. option_and_then (λ hash.
+    if has_members 6 d then Some (O.Untrash token server hash) else None)
+    (digest_at (codes "digest") d))
+    (server_at d)) (text_at (codes "token") d)
+
+-- the one device that can be named so far
+abbrev pub device_at : Data → Option ℕ
+device_at d = option_and_then (λ n. if n == 0 then Some n else None) (number_at (codes "device") d)
+
+-- `open`, `at`, `do` and `device`
+abbrev pub restart_of_data : Data → Option Opening
+restart_of_data d = option_and_then (λ device. if has_members 4 d then Some (O.Restart device) else None) (device_at d)
+
 abbrev pub opening_of_kind : Names → List ℕ → Data → Option Opening
 opening_of_kind names kind d =
     if bytes_eq kind (codes "put") then put_of_data d
     else if bytes_eq kind (codes "get") then get_of_data names d
+    else if bytes_eq kind (codes "touch") then touch_of_data names d
+    else if bytes_eq kind (codes "untrash") then untrash_of_data d
+    else if bytes_eq kind (codes "restart") then restart_of_data d
     else None
 
 -- LINES

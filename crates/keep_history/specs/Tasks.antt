@@ -5,7 +5,7 @@ use Rattle.std.specs.Fmt.{decimal}
 use Rattle.hex.specs.Hex.{encode_lower}
 use Rattle.md5.specs.Md5.{md5}
 use Rattle.keep_spec.specs.Sign.{hex8, signature_of, verdict}
-use Rattle.keep_spec.specs.Locator.{is_locator, locator_front, is_empty_block, digest}
+use Rattle.keep_spec.specs.Locator.{is_locator, locator_front, is_empty_block, digest, stripped}
 use Rattle.keep_spec.specs.Config.{Configuration, token_of}
 use Rattle.keep_spec.specs.declared.config.Device.{Device}
 use Rattle.keep_spec.specs.declared.token.TokenId.{TokenId}
@@ -65,22 +65,46 @@ put_opened c id token bytes hash =
     else if length (writable c) == 0 then Err O.NoRoom
     else Ok (T.Put token id bytes)
 
--- what a verdict makes of a get
-abbrev pub by_verdict : Result Triple Unverified → Result Task Outcome
-by_verdict (Ok triple) = Ok (T.Get triple.digest)
+-- the digest that a verdict lets a token ask for
+abbrev pub by_verdict : Result Triple Unverified → Result (List ℕ) Outcome
+by_verdict (Ok triple) = Ok triple.digest
 by_verdict (Err U.Missing) = Err O.Forbidden
 by_verdict (Err (U.Expired expiry)) = Err (O.Expired expiry)
 by_verdict (Err U.Invalid) = Err O.Forbidden
 
--- no locator, the empty block, the signature; the system token needs none
-abbrev pub get_opened : Configuration → TokenId → List ℕ → List ℕ → ℕ → Result Task Outcome
-get_opened c id token locator reading =
+-- the signature; the system token needs none
+abbrev pub permitted_block : Configuration → TokenId → List ℕ → List ℕ → ℕ → Result (List ℕ) Outcome
+permitted_block c id token locator reading =
+    if id.number == 0 then Ok (digest locator) else by_verdict (verdict locator token c.ttl c.secret reading)
+
+-- the digest that a locator lets a token ask for, or the end: no locator, the empty block with an end of its own, the signature
+abbrev pub permitted : Configuration → TokenId → List ℕ → List ℕ → ℕ → Outcome → Result (List ℕ) Outcome
+permitted c id token locator reading empty =
     if is_locator locator
     then
-    if is_empty_block locator then Err (O.Bytes [])
-    else if id.number == 0 then Ok (T.Get (digest locator))
-    else by_verdict (verdict locator token c.ttl c.secret reading)
+    if is_empty_block locator then Err empty else permitted_block c id token locator reading
     else Err (O.BadLocator (locator_front locator))
+
+-- a task for a digest, where one may be asked for
+abbrev pub with_digest : Result (List ℕ) Outcome → (List ℕ → Result Task Outcome) → Result Task Outcome
+with_digest (Err outcome) make = Err outcome
+with_digest (Ok hash) make = make hash
+
+abbrev pub get_opened : Configuration → TokenId → List ℕ → List ℕ → ℕ → Result Task Outcome
+get_opened c id token locator reading = with_digest (permitted c id token locator reading (O.Bytes [])) (λ hash. Ok (T.Get hash))
+
+-- a task that wants a writable device
+abbrev pub where_writable : Configuration → Task → Result Task Outcome
+where_writable c task = if length (writable c) == 0 then Err O.NotFound else Ok task
+
+-- as a get; the empty block is touched as it is, and a writable device is wanted last
+abbrev pub touch_opened : Configuration → TokenId → List ℕ → List ℕ → ℕ → Result Task Outcome
+touch_opened c id token locator reading =
+    with_digest (permitted c id token locator reading (O.Touched (stripped locator))) (λ hash. where_writable c (T.Touch token id hash (stripped locator)))
+
+-- the system token alone may bring trashed copies back
+abbrev pub untrash_opened : Configuration → TokenId → List ℕ → Result Task Outcome
+untrash_opened c id hash = if id.number == 0 then where_writable c (T.Untrash hash) else Err O.Forbidden
 
 -- an unknown token comes before all else
 abbrev pub with_token : Option TokenId → (TokenId → Result Task Outcome) → Result Task Outcome
@@ -91,6 +115,9 @@ with_token (Some id) make = make id
 unfoldable pub opened : Configuration → Opening → ℕ → Result Task Outcome
 opened c (Open.Put token server bytes hash) reading = with_token (token_of c token) (λ id. put_opened c id token bytes hash)
 opened c (Open.Get token server locator) reading = with_token (token_of c token) (λ id. get_opened c id token locator reading)
+opened c (Open.Touch token server locator) reading = with_token (token_of c token) (λ id. touch_opened c id token locator reading)
+opened c (Open.Untrash token server hash) reading = with_token (token_of c token) (λ id. untrash_opened c id hash)
+opened c (Open.Restart device) reading = Ok (T.Restart device)
 
 -- QUERIES AND ENDS
 -- a task asks a device, or has ended
@@ -164,7 +191,57 @@ fetches hash found [] answers = ends (fetched_none found)
 fetches hash found (d ∷ ds) [] = asks d (Q.Fetch hash)
 fetches hash found (d ∷ ds) (a ∷ answers) = ends_or (fetch_end a) (fetches hash (found_also found a) ds answers)
 
+-- the locator of a touch: the stripped text of the one given, and a permission by the replica's time
+unfoldable pub touched_locator : Configuration → List ℕ → List ℕ → List ℕ → ℕ → List ℕ
+touched_locator c token hash text mtime = text ++ permission_hint c hash token (expiry_of c mtime)
+
+abbrev pub touch_end : Configuration → List ℕ → List ℕ → List ℕ → DeviceAnswer → Option Outcome
+touch_end c token hash text (A.Touched mtime) = Some (O.Touched (touched_locator c token hash text mtime))
+touch_end c token hash text _ = None
+
+-- a touch on each device in turn, until one has the block
+unfoldable pub touches : Configuration → TokenId → List ℕ → List ℕ → List ℕ → Bool → List ℕ → List DeviceAnswer → Next
+touches c id token hash text fault [] answers = ends (if fault then O.StoreFault else O.NotFound)
+touches c id token hash text fault (d ∷ ds) [] = asks d (Q.Touch hash (Some id))
+touches c id token hash text fault (d ∷ ds) (a ∷ answers) =
+    ends_or (touch_end c token hash text a) (touches c id token hash text (fault || is_fault a) ds answers)
+
+-- what has come of the devices on which an untrash was asked: how many brought a copy back, whether a store failed, and whether a replica was there
+pub record Brought : Type 0 where
+  pub back : ℕ
+  pub fault : Bool
+  pub present : Bool
+
+abbrev pub brought_none : Brought
+brought_none = record { back = 0; fault = false; present = false }
+
+abbrev pub brought_also : Brought → DeviceAnswer → Brought
+brought_also b (A.Back mtime) = record { back = b.back + 1; fault = b.fault; present = b.present }
+brought_also b A.StoreFault = record { back = b.back; fault = true; present = b.present }
+brought_also b (A.Present mtime) = record { back = b.back; fault = b.fault; present = true }
+brought_also b _ = b
+
+abbrev pub brought_end : Brought → Outcome
+brought_end b =
+    if nat_lt 0 b.back then O.Untrashed b.back
+    else if b.fault then O.StoreFault
+    else if b.present then O.Untrashed 0
+    else O.NotFound
+
+-- an untrash on each device in turn
+unfoldable pub untrashes : List ℕ → Brought → List ℕ → List DeviceAnswer → Next
+untrashes hash b [] answers = ends (brought_end b)
+untrashes hash b (d ∷ ds) [] = asks d (Q.Untrash hash)
+untrashes hash b (d ∷ ds) (a ∷ answers) = untrashes hash (brought_also b a) ds answers
+
+unfoldable pub restarts : ℕ → List DeviceAnswer → Next
+restarts device [] = asks device Q.Restart
+restarts device (a ∷ answers) = ends O.Restarted
+
 -- the next query of a task after these answers, or its end
 unfoldable pub next : Configuration → Task → List DeviceAnswer → Next
 next c (T.Put token id block) answers = compares c id token block (writable c) (writable c) answers
 next c (T.Get hash) answers = fetches hash nothing devices answers
+next c (T.Touch token id hash text) answers = touches c id token hash text false (writable c) answers
+next c (T.Untrash hash) answers = untrashes hash brought_none (writable c) answers
+next c (T.Restart device) answers = restarts device answers

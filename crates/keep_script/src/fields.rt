@@ -1,8 +1,8 @@
 // What single fields of a line say.
-ghost use Rattle.std.specs.Prelude.{◌≡◌, IfOk};
+ghost use Rattle.std.specs.Prelude.{◌≡◌, ◌<◌, IfOk, IfSome};
 ghost use Rattle.std.specs.List.{list_all};
 ghost use Rattle.serde_json.specs.View.{view};
-ghost use Rattle.keep_history.specs.Script.{is_name_character, is_task_name, name_at, reading_at, server_at};
+ghost use Rattle.keep_history.specs.Script.{device_at, is_name_character, is_task_name, name_at, reading_at, server_at};
 
 use keep_config::json::{number_at, text_at};
 use keep_spec::{Bytes, NoMemory};
@@ -43,7 +43,8 @@ fn is_name_character(byte: u8) -> bool
 }
 
 pub(crate) fn reading_at(value: &Value) -> Option<u64>
-    ensures { result ≡ reading_at (view value.now) }
+    ensures reading { result ≡ reading_at (view value.now) }
+    ensures below { IfSome result (λ n. n < 4000000000000000000) }
 {
     match number_at(value, "at") {
         Some(reading) if reading < READING_END => Some(reading),
@@ -61,6 +62,15 @@ pub(crate) fn server_at(value: &Value) -> Option<u32>
     ensures { result ≡ server_at (view value.now) }
 {
     match number_at(value, "server") {
+        Some(0) => Some(0),
+        _ => None,
+    }
+}
+
+pub(crate) fn device_at(value: &Value) -> Option<u32>
+    ensures { result ≡ device_at (view value.now) }
+{
+    match number_at(value, "device") {
         Some(0) => Some(0),
         _ => None,
     }

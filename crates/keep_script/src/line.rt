@@ -1,7 +1,7 @@
 // The command of a line.
-ghost use Rattle.std.specs.Prelude.{◌≡◌, IfOk};
+ghost use Rattle.std.specs.Prelude.{◌≡◌, ◌<◌, IfOk, IfSome};
 ghost use Rattle.serde_json.specs.View.{view};
-ghost use Rattle.keep_history.specs.Script.{command_of, command_of_data, finishes, is_open, opens};
+ghost use Rattle.keep_history.specs.Script.{command_of, command_of_data, finishes, is_open, opens, reading_of};
 ghost use Rattle.keep_history.specs.Names.{state_of_name};
 
 use crate::fields::{name_at, reading_at};
@@ -20,7 +20,8 @@ pub fn read_command(
     names: &BTreeMap<Bytes, TaskState>,
     text: &[u8],
 ) -> Result<Option<Command>, NoMemory>
-    ensures { IfOk result (λ o. o ≡ command_of names.now.entries text.now) }
+    ensures command { IfOk result (λ o. o ≡ command_of names.now.entries text.now) }
+    ensures reading { IfOk result (λ o. IfSome o (λ c. reading_of c < 4000000000000000000)) }
 {
     match value_of(alloc, text)? {
         Some(value) => command_of_value(alloc, names, &value),
@@ -33,7 +34,8 @@ fn command_of_value(
     names: &BTreeMap<Bytes, TaskState>,
     value: &Value,
 ) -> Result<Option<Command>, NoMemory>
-    ensures { IfOk result (λ o. o ≡ command_of_data names.now.entries (view value.now)) }
+    ensures command { IfOk result (λ o. o ≡ command_of_data names.now.entries (view value.now)) }
+    ensures reading { IfOk result (λ o. IfSome o (λ c. reading_of c < 4000000000000000000)) }
 {
     if value.get("open").is_some() {
         opens(alloc, names, value)
@@ -47,7 +49,8 @@ fn opens(
     names: &BTreeMap<Bytes, TaskState>,
     value: &Value,
 ) -> Result<Option<Command>, NoMemory>
-    ensures { IfOk result (λ o. o ≡ opens names.now.entries (view value.now)) }
+    ensures command { IfOk result (λ o. o ≡ opens names.now.entries (view value.now)) }
+    ensures reading { IfOk result (λ o. IfSome o (λ c. reading_of c < 4000000000000000000)) }
 {
     let Some(name) = name_at(alloc, value, "open")? else {
         return Ok(None);
@@ -76,7 +79,8 @@ fn finishes(
     names: &BTreeMap<Bytes, TaskState>,
     value: &Value,
 ) -> Result<Option<Command>, NoMemory>
-    ensures { IfOk result (λ o. o ≡ finishes names.now.entries (view value.now)) }
+    ensures command { IfOk result (λ o. o ≡ finishes names.now.entries (view value.now)) }
+    ensures reading { IfOk result (λ o. IfSome o (λ c. reading_of c < 4000000000000000000)) }
 {
     let Some(name) = name_at(alloc, value, "finish")? else {
         return Ok(None);

@@ -2,10 +2,10 @@
 ghost use Rattle.std.specs.Prelude.{◌≡◌, ◌<◌, ◌^◌, IfOk, Option, None, Some, option_map, option_copied};
 ghost use Rattle.serde_json.specs.View.{view};
 ghost use Rattle.serde_json.specs.Find.{get};
-ghost use Rattle.keep_history.specs.Script.{digest_of_data, get_of_data, locator_of_data, locator_of_reference, members_with, opening_of_kind, put_of_data, stored_locator};
+ghost use Rattle.keep_history.specs.Script.{digest_at, digest_of_data, ended_locator, get_of_data, locator_of_data, locator_of_reference, members_with, opening_of_kind, put_of_data, restart_of_data, touch_of_data, untrash_of_data};
 ghost use Rattle.keep_history.specs.Names.{state_of_name};
 
-use crate::fields::{copied, server_at};
+use crate::fields::{copied, device_at, server_at};
 use crate::hexadecimal::bytes_of_text;
 use keep_config::json::{has_members, text_at};
 use keep_event::{Opening, TaskState};
@@ -26,6 +26,12 @@ pub(crate) fn opening_of_kind(
         put_of_value(alloc, value)
     } else if kind == b"get".as_slice() {
         get_of_value(alloc, names, value)
+    } else if kind == b"touch".as_slice() {
+        touch_of_value(alloc, names, value)
+    } else if kind == b"untrash".as_slice() {
+        untrash_of_value(alloc, value)
+    } else if kind == b"restart".as_slice() {
+        Ok(restart_of_value(value))
     } else {
         Ok(None)
     }
@@ -89,6 +95,74 @@ fn get_of_value(
     }))
 }
 
+fn touch_of_value(
+    alloc: Global,
+    names: &BTreeMap<Bytes, TaskState>,
+    value: &Value,
+) -> Result<Option<Opening>, NoMemory>
+    ensures { IfOk result (λ o. o ≡ touch_of_data names.now.entries (view value.now)) }
+{
+    let Some(token) = text_at(value, "token") else {
+        return Ok(None);
+    };
+    let Some(server) = server_at(value) else {
+        return Ok(None);
+    };
+    let Some(found) = value.get("locator") else {
+        return Ok(None);
+    };
+    if !has_members(value, 6) {
+        return Ok(None);
+    }
+    let Some(locator) = locator_of_value(alloc, names, found)? else {
+        return Ok(None);
+    };
+    Ok(Some(Opening::Touch {
+        token: copied(alloc, token)?,
+        server,
+        locator,
+    }))
+}
+
+fn untrash_of_value(alloc: Global, value: &Value) -> Result<Option<Opening>, NoMemory>
+    ensures { IfOk result (λ o. o ≡ untrash_of_data (view value.now)) }
+{
+    let Some(token) = text_at(value, "token") else {
+        return Ok(None);
+    };
+    let Some(server) = server_at(value) else {
+        return Ok(None);
+    };
+    let Some(digest) = digest_at(value, "digest") else {
+        return Ok(None);
+    };
+    if !has_members(value, 6) {
+        return Ok(None);
+    }
+    Ok(Some(Opening::Untrash {
+        token: copied(alloc, token)?,
+        server,
+        digest,
+    }))
+}
+
+fn restart_of_value(value: &Value) -> Option<Opening>
+    ensures { result ≡ restart_of_data (view value.now) }
+{
+    let device = device_at(value)?;
+    if has_members(value, 4) {
+        Some(Opening::Restart { device })
+    } else {
+        None
+    }
+}
+
+fn digest_at(value: &Value, field: &str) -> Option<Digest>
+    ensures { result ≡ digest_at field.now (view value.now) }
+{
+    Digest::read(text_at(value, field)?.as_bytes())
+}
+
 // None where a digest is given that is none.
 fn digest_of_member(member: Option<&Value>) -> Option<Option<Digest>>
     ensures { result ≡ digest_of_data (option_map view (option_copied member.entry)) }
@@ -136,20 +210,20 @@ fn locator_of_reference(
         return Ok(None);
     }
     match text_at(value, "locator") {
-        Some(name) => stored_locator(alloc, names, &copied(alloc, name)?),
+        Some(name) => ended_locator(alloc, names, &copied(alloc, name)?),
         None => Ok(None),
     }
 }
 
-fn stored_locator(
+fn ended_locator(
     alloc: Global,
     names: &BTreeMap<Bytes, TaskState>,
     name: &Bytes,
 ) -> Result<Option<Bytes>, NoMemory>
-    ensures { IfOk result (λ o. o ≡ stored_locator (state_of_name name.now names.now.entries)) }
+    ensures { IfOk result (λ o. o ≡ ended_locator (state_of_name name.now names.now.entries)) }
 {
     match names.get(name) {
-        Some(TaskState::Stored { locator }) => Ok(Some(locator.copied(alloc)?)),
+        Some(TaskState::Located { locator }) => Ok(Some(locator.copied(alloc)?)),
         _ => Ok(None),
     }
 }

@@ -81,7 +81,10 @@ fn push_outcome(out: &mut Vec<u8>, outcome: &Outcome) -> Result<(), NoMemory>
 {
     match outcome {
         Outcome::Stored { locator } => push_text(out, b"Stored ", locator.as_slice()),
+        Outcome::Touched { locator } => push_text(out, b"Touched ", locator.as_slice()),
         Outcome::Bytes { bytes } => push_bytes(out, bytes.as_slice()),
+        Outcome::Untrashed { copies } => push_number(out, b"Untrashed", *copies),
+        Outcome::Restarted => push_word(out, b"Restarted"),
         Outcome::UnknownToken => push_word(out, b"UnknownToken"),
         Outcome::TooLong => push_word(out, b"TooLong"),
         Outcome::HashMismatch { computed } => push_digest(out, b"HashMismatch", computed),

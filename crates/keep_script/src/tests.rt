@@ -67,6 +67,36 @@ fn shown_opening(alloc: Global, opening: &Opening) -> Result<Vec<u8>, AllocError
                 locator.as_slice(),
             ],
         ),
+        Opening::Touch {
+            token,
+            server,
+            locator,
+        } => words(
+            alloc,
+            &[
+                b"touch",
+                token.as_slice(),
+                server.to_string(alloc)?.as_bytes(),
+                locator.as_slice(),
+            ],
+        ),
+        Opening::Untrash {
+            token,
+            server,
+            digest,
+        } => words(
+            alloc,
+            &[
+                b"untrash",
+                token.as_slice(),
+                server.to_string(alloc)?.as_bytes(),
+                &digest.write(),
+            ],
+        ),
+        Opening::Restart { device } => words(
+            alloc,
+            &[b"restart", device.to_string(alloc)?.as_bytes()],
+        ),
     }
 }
 
@@ -95,7 +125,7 @@ fn shown(alloc: Global, command: &Command) -> Result<Vec<u8>, AllocError> {
     }
 }
 
-// A name that is open, one that ended Stored, and one that ended otherwise.
+// A name that is open, one that ended with a locator, and one that ended otherwise.
 fn some_names(alloc: Global) -> Result<BTreeMap<Bytes, TaskState>, Fail> {
     let mut names = BTreeMap::new(alloc);
     let task = Task::Get {
@@ -103,7 +133,7 @@ fn some_names(alloc: Global) -> Result<BTreeMap<Bytes, TaskState>, Fail> {
     };
     names.insert(bytes(alloc, b"open")?, TaskState::Open { task, actor: 0 })?;
     let locator = bytes(alloc, b"d41d8cd98f00b204e9800998ecf8427e+0")?;
-    names.insert(bytes(alloc, b"kept")?, TaskState::Stored { locator })?;
+    names.insert(bytes(alloc, b"kept")?, TaskState::Located { locator })?;
     names.insert(bytes(alloc, b"ended")?, TaskState::Ended)?;
     Ok(names)
 }
@@ -132,6 +162,18 @@ fn lines_that_are_commands(rt: HostRuntime) -> Result<(), Fail> {
         (
             r#"{"open":"aaaaaaaabbbbbbbbccccccccddddddddeeeeeeeeffffffffgggggggghhhhhhhh","at":5,"do":"get","token":"t","server":0,"locator":""}"#,
             "aaaaaaaabbbbbbbbccccccccddddddddeeeeeeeeffffffffgggggggghhhhhhhh 5 get t 0   ",
+        ),
+        (
+            r#"{"open":"a","at":5,"do":"touch","token":"t","server":0,"locator":{"locator":"kept"}}"#,
+            "a 5 touch t 0 d41d8cd98f00b204e9800998ecf8427e+0  ",
+        ),
+        (
+            r#"{"open":"a","at":5,"do":"untrash","token":"t","server":0,"digest":"900150983cd24fb0d6963f7d28e17f72"}"#,
+            "a 5 untrash t 0 900150983cd24fb0d6963f7d28e17f72  ",
+        ),
+        (
+            r#"{"open":"a","at":5,"do":"restart","device":0}"#,
+            "a 5 restart 0  ",
         ),
         (r#"{"finish":"open","at":7}"#, "open 7 finish "),
     ];
@@ -190,6 +232,11 @@ fn lines_that_are_none(rt: HostRuntime) -> Result<(), Fail> {
         r#"{"open":"a","at":5,"do":"put","token":"t","server":0,"bytes":"61","digest":"900150983cd24fb0d6963f7d28e17f7"}"#,
         r#"{"open":"a","at":5,"do":"put","token":"t","server":0,"bytes":"61","digest":null}"#,
         r#"{"open":"a","at":5,"do":"put","token":"t","server":0,"bytes":"61","sum":"900150983cd24fb0d6963f7d28e17f72"}"#,
+        r#"{"open":"a","at":5,"do":"touch","token":"t","server":1,"locator":"x"}"#,
+        r#"{"open":"a","at":5,"do":"untrash","token":"t","server":0,"digest":"900150983CD24fb0d6963f7d28e17f72"}"#,
+        r#"{"open":"a","at":5,"do":"untrash","token":"t","server":0}"#,
+        r#"{"open":"a","at":5,"do":"restart","device":1}"#,
+        r#"{"open":"a","at":5,"do":"restart","device":0,"server":0}"#,
     ];
     for line in rows {
         assert!(rt;
@@ -322,6 +369,14 @@ fn lines_of_ends(rt: HostRuntime) -> Result<(), Fail> {
             },
             "Bytes",
         ),
+        (
+            Outcome::Touched {
+                locator: bytes(alloc, b"x+2")?,
+            },
+            "Touched x+2",
+        ),
+        (Outcome::Untrashed { copies: 2 }, "Untrashed 2"),
+        (Outcome::Restarted, "Restarted"),
         (Outcome::UnknownToken, "UnknownToken"),
         (Outcome::TooLong, "TooLong"),
         (

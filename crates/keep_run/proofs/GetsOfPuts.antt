@@ -1,0 +1,394 @@
+-- Gets give what was put.
+use Rattle.std.proofs.Common.{◌≡◌, ℕ, zero, suc, ◌+◌, ◌==◌, Bool, true, false, List, [], ◌∷◌, ◌++◌, length, cond, Option, None, Some, IfSome, Result, Ok, Err, ◌⊎◌, inl, inr, refl, sym, ◌∙◌, ap, subst, option_and_then, arith, if◌then◌else◌}
+use Rattle.std.specs.Prelude.{⊤, nat_lt}
+use Rattle.std.proofs.lemmas.Bool.{and_parts, eqb-true}
+use Rattle.std.proofs.lemmas.Slice.Eq.{bytes_eq-Decides}
+use Rattle.std.specs.List.{AllByRecursion}
+use Rattle.std.specs.Str.{bytes_eq}
+use Rattle.std.specs.Ordering.{match_ordering, nat_cmp, is_eq}
+use Rattle.std.specs.Cmp.Lexicographic.{slice_cmp}
+use Rattle.std.specs.BTreeMap.{insert_entry, is_at}
+use Rattle.std.specs.Map.{lookup}
+use Rattle.std.specs.declared.cmp.Ordering.{Ordering}
+use Rattle.std.specs.declared.cmp.Ordering.TheVariants.{Less, Equal, Greater}
+use Rattle.md5.specs.Md5.{md5}
+use Rattle.keep_spec.specs.Config.{Configuration, token_of}
+use Rattle.keep_spec.specs.Lines.{cut, text_of}
+use Rattle.keep_spec.specs.Locator.{stripped}
+use Rattle.keep_spec.specs.declared.config.Field.{Field}
+use Rattle.keep_spec.specs.declared.token.TokenId.{TokenId}
+use Rattle.keep_spec.specs.declared.unverified.Triple.{Triple}
+use Rattle.keep_spec.specs.declared.unverified.Unverified.{Unverified}
+use Rattle.keep_event.specs.Device as machine
+use Rattle.keep_event.specs.Device.{State, Reply}
+use Rattle.keep_event.specs.declared.names.Name.{Name}
+use Rattle.keep_event.specs.declared.names.Stored.{Stored}
+use Rattle.keep_event.specs.declared.device.DeviceAnswer.{DeviceAnswer}
+use Rattle.keep_event.specs.declared.device.DeviceAnswer.TheVariants as A
+use Rattle.keep_event.specs.declared.device.DeviceQuery.{DeviceQuery}
+use Rattle.keep_event.specs.declared.device.DeviceQuery.TheVariants as Q
+use Rattle.keep_event.specs.declared.task.Command.{Command}
+use Rattle.keep_event.specs.declared.task.Command.TheVariants as C
+use Rattle.keep_event.specs.declared.task.Opening.{Opening}
+use Rattle.keep_event.specs.declared.task.Opening.TheVariants as Open
+use Rattle.keep_event.specs.declared.task.Outcome.{Outcome}
+use Rattle.keep_event.specs.declared.task.Outcome.TheVariants as O
+use Rattle.keep_event.specs.declared.task.Task.{Task}
+use Rattle.keep_event.specs.declared.task.Task.TheVariants as T
+use Rattle.keep_event.specs.declared.task.TaskState.{TaskState}
+use Rattle.keep_event.specs.declared.task.TaskState.TheVariants as S
+use Rattle.keep_history.specs.Effects.{Scene, Effect, Asking, Asked, Made, asked, fails_at, finished, reply_to, asked_at, rules_of, effect_of_line, effect_of_command, finish_state, open_effect, names_after, state_after}
+use Rattle.keep_history.specs.Names.{Names, state_of_name, with_name}
+use Rattle.keep_history.specs.Reads.{bytes_put, Read, given, given_by, read_by, IsAmong, IsOfPut, AreOfPuts, AreOfPutsUnder, ReadsOfPieces, ReadsAreOfPuts}
+use Rattle.keep_history.specs.Run.{config_for, is_empty, at_start}
+use Rattle.keep_history.specs.Script.{command_of}
+use Rattle.keep_history.specs.Tasks.{Next, asks, ends, ends_or, next, opened, compares, writes, fetches, touches, untrashes, restarts, writable, with_token, put_opened, get_opened, touch_opened, untrash_opened, where_writable, permitted, permitted_block, by_verdict, with_digest, has_other_digest, empty_locator, compare_end, write_end, fetch_end, touch_end, is_fault, Found, found_also, Brought, brought_also}
+use Rattle.keep_run.specs.Asked.{fetch_outcome}
+use Rattle.keep_run.specs.Runs.{BothTold}
+use Rattle.keep_run.proofs.Held.{HoldAll, BringsAll, all-found, step-all}
+use Rattle.keep_run.proofs.Nexts.{single-asks, single-ends}
+
+module _ (P : List ℕ → Type 0) where
+  -- ---- tasks
+
+  -- the block that a task brings has P
+  abbrev TaskBrings : Task → Type 0
+  TaskBrings (T.Put token id block) = P block
+  TaskBrings _ = ⊤
+
+  abbrev NextBrings : Next → Type 0
+  NextBrings (asks d q) = BringsAll P q
+  NextBrings (ends outcome) = ⊤
+
+  ends-or-brings : (o : Option Outcome) (n : Next) → NextBrings n → NextBrings (ends_or o n)
+  ends-or-brings None n h = h
+  ends-or-brings (Some o) n h = tt
+
+  module _ (c : Configuration) (id : TokenId) (token bytes : List ℕ) (p : P bytes) where
+    writes-bring : (fault : Bool) (ds : List ℕ) (answers : List DeviceAnswer) → NextBrings (writes c id token bytes fault ds answers)
+    unfolding writes
+    writes-bring fault [] answers = tt
+    writes-bring fault (d ∷ ds) [] = p
+    writes-bring fault (d ∷ ds) (a ∷ answers) = ends-or-brings (write_end c token bytes a) _ (writes-bring _ ds answers)
+
+    compares-bring : (all ds : List ℕ) (answers : List DeviceAnswer) → NextBrings (compares c id token bytes all ds answers)
+    unfolding compares
+    compares-bring all [] answers = writes-bring false all answers
+    compares-bring all (d ∷ ds) [] = p
+    compares-bring all (d ∷ ds) (a ∷ answers) = ends-or-brings (compare_end c token bytes a) _ (compares-bring all ds answers)
+
+  fetches-bring : (hash : List ℕ) (found : Found) (ds : List ℕ) (answers : List DeviceAnswer) → NextBrings (fetches hash found ds answers)
+  unfolding fetches
+  fetches-bring hash found [] answers = tt
+  fetches-bring hash found (d ∷ ds) [] = tt
+  fetches-bring hash found (d ∷ ds) (a ∷ answers) = ends-or-brings (fetch_end a) _ (fetches-bring hash (found_also found a) ds answers)
+
+  touches-bring : (c : Configuration) (id : TokenId) (token hash text : List ℕ) (fault : Bool) (ds : List ℕ) (answers : List DeviceAnswer) → NextBrings (touches c id token hash text fault ds answers)
+  unfolding touches
+  touches-bring c id token hash text fault [] answers = tt
+  touches-bring c id token hash text fault (d ∷ ds) [] = tt
+  touches-bring c id token hash text fault (d ∷ ds) (a ∷ answers) = ends-or-brings (touch_end c token hash text a) _ (touches-bring c id token hash text _ ds answers)
+
+  untrashes-bring : (hash : List ℕ) (b : Brought) (ds : List ℕ) (answers : List DeviceAnswer) → NextBrings (untrashes hash b ds answers)
+  unfolding untrashes
+  untrashes-bring hash b [] answers = tt
+  untrashes-bring hash b (d ∷ ds) [] = tt
+  untrashes-bring hash b (d ∷ ds) (a ∷ answers) = untrashes-bring hash (brought_also b a) ds answers
+
+  restarts-bring : (device : ℕ) (answers : List DeviceAnswer) → NextBrings (restarts device answers)
+  unfolding restarts
+  restarts-bring device [] = tt
+  restarts-bring device (a ∷ answers) = tt
+
+  next-brings : (c : Configuration) (task : Task) (answers : List DeviceAnswer) → TaskBrings task → NextBrings (next c task answers)
+  unfolding next
+  next-brings c (T.Put token id block) answers p = compares-bring c id token block p (writable c) (writable c) answers
+  next-brings c (T.Get hash) answers p = fetches-bring hash _ _ answers
+  next-brings c (T.Touch token id hash text) answers p = touches-bring c id token hash text false (writable c) answers
+  next-brings c (T.Untrash hash) answers p = untrashes-bring hash _ (writable c) answers
+  next-brings c (T.Restart device) answers p = restarts-bring device answers
+
+  asked-holds : (fails : Bool) (s : State) (r : Reply) → HoldAll P s.held → HoldAll P r.state.held → HoldAll P (asked fails s r).state.held
+  asked-holds true s r h k = h
+  asked-holds false s r h k = k
+
+  finished-holds : (turns : ℕ) (a : Asking) (n : ℕ) (s : State) (answers : List DeviceAnswer) (nx : Next) → TaskBrings a.task → HoldAll P s.held → NextBrings nx → HoldAll P (finished turns a n s answers nx).state.held
+  unfolding finished
+  finished-holds turns a n s answers (ends outcome) t h b = ended turns
+    where
+      ended : (turns : ℕ) → HoldAll P (finished turns a n s answers (ends outcome)).state.held
+      ended zero = h
+      ended (suc k) = h
+  finished-holds zero a n s answers (asks d q) t h b = h
+  finished-holds (suc turns) a n s answers (asks d q) t h b =
+      let r = reply_to a n s q in
+      finished-holds turns a (n + 1) r.state (answers ++ r.answer ∷ []) (next a.config a.task (answers ++ r.answer ∷ [])) t
+      (asked-holds (fails_at a.failed n q) s _ h (step-all P (rules_of a.config) a.reading s h q b))
+      (next-brings a.config a.task (answers ++ r.answer ∷ []) t)
+
+  -- ---- names
+
+  abbrev StateBrings : TaskState → Type 0
+  StateBrings (S.Open task actor) = TaskBrings task
+  StateBrings _ = ⊤
+
+  abbrev NamesBring : Names → Type 0
+  NamesBring names = AllByRecursion (λ n. StateBrings n.1) names
+
+  named-by : (o : Ordering) (name : List ℕ) (st : TaskState) (e : List ℕ × TaskState) (es rest : Names) → StateBrings st → StateBrings e.1 → NamesBring es → NamesBring rest →
+      NamesBring (match_ordering o ((name, st) ∷ e ∷ es) ((e.0, st) ∷ es) (e ∷ rest))
+  named-by Less name st e es rest p q h k = (p, (q, h))
+  named-by Equal name st e es rest p q h k = (p, h)
+  named-by Greater name st e es rest p q h k = (q, k)
+
+  named : (name : List ℕ) (st : TaskState) (names : Names) → StateBrings st → NamesBring names → NamesBring (with_name name st names)
+  named name st [] p h = (p, tt)
+  named name st (e ∷ es) p h = named-by (slice_cmp nat_cmp name e.0) name st e es (with_name name st es) p h.0 h.1 (named name st es p h.1)
+
+  looked-by : (b : Bool) (st : TaskState) (rest : Option TaskState) → StateBrings st → IfSome rest StateBrings → IfSome (cond b (Some st) rest) StateBrings
+  looked-by true st rest p h = p
+  looked-by false st rest p h = h
+
+  looked-up : (name : List ℕ) (names : Names) → NamesBring names → IfSome (state_of_name name names) StateBrings
+  looked-up name [] h = tt
+  looked-up name (e ∷ es) h = looked-by (is_at (slice_cmp nat_cmp name) e.0) e.1 (state_of_name name es) h.0 (looked-up name es h.1)
+
+  after-brings : (o : Outcome) → StateBrings (state_after o)
+  after-brings (O.Stored locator) = tt
+  after-brings (O.Touched locator) = tt
+  after-brings (O.Bytes bytes) = tt
+  after-brings (O.Untrashed copies) = tt
+  after-brings O.Restarted = tt
+  after-brings O.UnknownToken = tt
+  after-brings O.TooLong = tt
+  after-brings (O.HashMismatch computed) = tt
+  after-brings O.Collision = tt
+  after-brings O.NoRoom = tt
+  after-brings O.StoreFault = tt
+  after-brings (O.BadLocator at) = tt
+  after-brings O.Forbidden = tt
+  after-brings (O.Expired expiry) = tt
+  after-brings O.NotFound = tt
+  after-brings (O.Corrupt found) = tt
+
+  names-after-bring : (name : List ℕ) (o : Option Outcome) (names : Names) → NamesBring names → NamesBring (names_after name o names)
+  names-after-bring name None names h = h
+  names-after-bring name (Some o) names h = named name (state_after o) names (after-brings o) h
+
+  -- ---- what a fetch gives
+
+  abbrev is-of : List ℕ → Option Read → Type 0
+  is-of hash o = IfSome o (λ r. (md5 r.bytes ≡ r.digest) × P r.bytes)
+
+  fetched-given : (hash : List ℕ) (s : State) (o : Option Stored) → IfSome o (λ r. P r.bytes) → is-of hash (given hash (Some (fetch_outcome (machine.fetched hash s o).answer)))
+  fetched-given hash s None p = tt
+  fetched-given hash s (Some r) p = by (bytes_eq (md5 r.bytes) hash) refl
+    where
+      by : (b : Bool) → bytes_eq (md5 r.bytes) hash ≡ b → is-of hash (given hash (Some (fetch_outcome (machine.fetched hash s (Some r)).answer)))
+      by true e = rw e ((bytes_eq-Decides (md5 r.bytes) hash).0 e, p)
+      by false e = rw e tt
+
+  reply-given : (hash : List ℕ) (fails : Bool) (s : State) → HoldAll P s.held → is-of hash (given hash (Some (fetch_outcome (asked fails s (machine.fetch hash s)).answer)))
+  unfolding machine.fetch
+  reply-given hash true s h = tt
+  reply-given hash false s h = fetched-given hash s (machine.replica_of hash s) (all-found P (machine.replica hash) s.held h)
+
+  -- what a finished get of the one device gives
+  finished-given : (turns : ℕ) (a : Asking) (n : ℕ) (s : State) (hash : List ℕ) → a.task ≡ T.Get hash → HoldAll P s.held → is-of hash (given hash (finished (suc (suc turns)) a n s [] (next a.config (T.Get hash) [])).outcome)
+  unfolding finished
+  finished-given turns a n s hash e h =
+      let r = reply_to a n s (Q.Fetch hash) in
+      let ended : next a.config a.task (r.answer ∷ []) ≡ ends (fetch_outcome r.answer) = ap (λ t. next a.config t (r.answer ∷ [])) e ∙ single-ends a.config (T.Get hash) (Q.Fetch hash) r.answer refl in
+      rw (single-asks a.config (T.Get hash) (Q.Fetch hash) refl, ended) (reply-given hash (fails_at a.failed n (Q.Fetch hash)) s h)
+
+  given-of : (c : Configuration) (failed : List ℕ) (scene : Scene) (reading : ℕ) (st : Option TaskState) → HoldAll P scene.state.held → IfSome (given_by c failed scene reading st) (λ r. (md5 r.bytes ≡ r.digest) × P r.bytes)
+  given-of c failed scene reading None h = tt
+  given-of c failed scene reading (Some (S.Open (T.Put token id block) actor)) h = tt
+  given-of c failed scene reading (Some (S.Open (T.Get hash) actor)) h =
+      finished-given 126 (record { config = c; failed = failed; actor = actor; reading = reading; task = T.Get hash }) scene.count scene.state hash refl h
+  given-of c failed scene reading (Some (S.Open (T.Touch token id hash text) actor)) h = tt
+  given-of c failed scene reading (Some (S.Open (T.Untrash hash) actor)) h = tt
+  given-of c failed scene reading (Some (S.Open (T.Restart device) actor)) h = tt
+  given-of c failed scene reading (Some (S.Located locator)) h = tt
+  given-of c failed scene reading (Some S.Ended) h = tt
+
+  read-of : (c : Configuration) (failed : List ℕ) (scene : Scene) (o : Option Command) → HoldAll P scene.state.held → IfSome (read_by c failed scene o) (λ r. (md5 r.bytes ≡ r.digest) × P r.bytes)
+  read-of c failed scene None h = tt
+  read-of c failed scene (Some (C.Open name reading opening)) h = tt
+  read-of c failed scene (Some (C.Finish name reading)) h = given-of c failed scene reading (state_of_name name scene.names) h
+
+  -- ---- openings
+
+  abbrev OpeningBrings : Opening → Type 0
+  OpeningBrings (Open.Put token server bytes hash) = P bytes
+  OpeningBrings _ = ⊤
+
+  abbrev OkBrings : Result Task Outcome → Type 0
+  OkBrings (Ok task) = TaskBrings task
+  OkBrings (Err outcome) = ⊤
+
+  after-one : (a : Bool) (w : Outcome) (t : Task) → TaskBrings t → OkBrings (if a then Err w else Ok t)
+  after-one true w t p = tt
+  after-one false w t p = p
+
+  after-four : (a b c d : Bool) (w x y z : Outcome) (t : Task) → TaskBrings t → OkBrings (if a then Err w else if b then Err x else if c then Err y else if d then Err z else Ok t)
+  after-four true b c d w x y z t p = tt
+  after-four false true c d w x y z t p = tt
+  after-four false false true d w x y z t p = tt
+  after-four false false false true w x y z t p = tt
+  after-four false false false false w x y z t p = p
+
+  where-allowed : (a b : Bool) (w x : Outcome) (t : Task) → TaskBrings t → OkBrings (if a then (if b then Err w else Ok t) else Err x)
+  where-allowed true b w x t p = after-one b w t p
+  where-allowed false b w x t p = tt
+
+  ok-token : (o : Option TokenId) (make : TokenId → Result Task Outcome) → ((id : TokenId) → OkBrings (make id)) → OkBrings (with_token o make)
+  ok-token None make h = tt
+  ok-token (Some id) make h = h id
+
+  ok-digest : (r : Result (List ℕ) Outcome) (make : List ℕ → Result Task Outcome) → ((hash : List ℕ) → OkBrings (make hash)) → OkBrings (with_digest r make)
+  ok-digest (Err outcome) make h = tt
+  ok-digest (Ok hash) make h = h hash
+
+  opened-brings : (c : Configuration) (opening : Opening) (reading : ℕ) → OpeningBrings opening → OkBrings (opened c opening reading)
+  unfolding opened
+  opened-brings c (Open.Put token server bytes hash) reading p =
+      ok-token (token_of c token) (λ id. put_opened c id token bytes hash)
+      (λ id. after-four (nat_lt 67108864 (length bytes)) (has_other_digest bytes hash) (length bytes == 0) (length (writable c) == 0)
+      O.TooLong (O.HashMismatch (md5 bytes)) (O.Stored empty_locator) O.NoRoom (T.Put token id bytes) p)
+  opened-brings c (Open.Get token server locator) reading p =
+      ok-token (token_of c token) (λ id. get_opened c id token locator reading)
+      (λ id. ok-digest (permitted c id token locator reading (O.Bytes [])) (λ hash. Ok (T.Get hash)) (λ hash. tt))
+  opened-brings c (Open.Touch token server locator) reading p =
+      ok-token (token_of c token) (λ id. touch_opened c id token locator reading)
+      (λ id. ok-digest (permitted c id token locator reading (O.Touched (stripped locator))) (λ hash. where_writable c (T.Touch token id hash (stripped locator)))
+      (λ hash. after-one (length (writable c) == 0) O.NotFound (T.Touch token id hash (stripped locator)) tt))
+  opened-brings c (Open.Untrash token server hash) reading p =
+      ok-token (token_of c token) (λ id. untrash_opened c id hash)
+      (λ id. where-allowed (id.number == 0) (length (writable c) == 0) O.NotFound O.Forbidden (T.Untrash hash) tt)
+  opened-brings c (Open.Restart device) reading p = tt
+
+  -- ---- lines
+
+  -- what stands between two lines was put
+  pub record SceneBrings (scene : Scene) : Type 0 where
+    held : HoldAll P scene.state.held
+    names : NamesBring scene.names
+
+  abbrev EffectBrings : Option Effect → Type 0
+  EffectBrings o = IfSome o (λ e. SceneBrings e.scene)
+
+  opened-scene : (scene : Scene) (name : List ℕ) (r : Result Task Outcome) → OkBrings r → SceneBrings scene → SceneBrings (open_effect scene name r).scene
+  opened-scene scene name (Ok task) p h = record { held = h.held; names = named name (S.Open task (length scene.names)) scene.names p h.names }
+  opened-scene scene name (Err outcome) p h = record { held = h.held; names = named name (state_after outcome) scene.names (after-brings outcome) h.names }
+
+  finished-scene : (c : Configuration) (failed : List ℕ) (scene : Scene) (name : List ℕ) (reading : ℕ) (st : Option TaskState) → IfSome st StateBrings → SceneBrings scene → EffectBrings (finish_state c failed scene name reading st)
+  finished-scene c failed scene name reading None p h = tt
+  finished-scene c failed scene name reading (Some (S.Open task actor)) p h =
+      let a : Asking = record { config = c; failed = failed; actor = actor; reading = reading; task = task } in
+      record {
+        held = finished-holds 128 a scene.count scene.state [] (next c task []) p h.held (next-brings c task [] p);
+        names = names-after-bring name (asked_at c failed scene reading task actor).outcome scene.names h.names;
+      }
+  finished-scene c failed scene name reading (Some (S.Located locator)) p h = tt
+  finished-scene c failed scene name reading (Some S.Ended) p h = tt
+
+  abbrev CommandBrings : Command → Type 0
+  CommandBrings (C.Open name reading opening) = OpeningBrings opening
+  CommandBrings (C.Finish name reading) = ⊤
+
+  done-scene : (c : Configuration) (failed : List ℕ) (scene : Scene) (command : Command) → CommandBrings command → SceneBrings scene → EffectBrings (effect_of_command c failed scene command)
+  unfolding effect_of_command
+  done-scene c failed scene (C.Open name reading opening) p h = opened-scene scene name (opened c opening reading) (opened-brings c opening reading p) h
+  done-scene c failed scene (C.Finish name reading) p h = finished-scene c failed scene name reading (state_of_name name scene.names) (looked-up name scene.names h.names) h
+
+  given-scene : (c : Configuration) (failed : List ℕ) (scene : Scene) (o : Option Command) → IfSome o CommandBrings → SceneBrings scene → EffectBrings (option_and_then (effect_of_command c failed scene) o)
+  given-scene c failed scene None p h = tt
+  given-scene c failed scene (Some command) p h = done-scene c failed scene command p h
+
+  line-scene : (c : Configuration) (failed : List ℕ) (scene : Scene) (text : List ℕ) → IfSome (command_of scene.names text) CommandBrings → SceneBrings scene → EffectBrings (effect_of_line c failed scene text)
+  line-scene c failed scene [] p h = h
+  line-scene c failed scene (x ∷ xs) p h = given-scene c failed scene (command_of scene.names (x ∷ xs)) p h
+
+-- ---- more that was put
+
+module _ (P Q : List ℕ → Type 0) (more : (bytes : List ℕ) → P bytes → Q bytes) where
+  more-held : (es : List (Name × Stored)) → HoldAll P es → HoldAll Q es
+  more-held [] h = tt
+  more-held (e ∷ es) h = (more e.1.bytes h.0, more-held es h.1)
+
+  more-task : (task : Task) → TaskBrings P task → TaskBrings Q task
+  more-task (T.Put token id block) h = more block h
+  more-task (T.Get hash) h = tt
+  more-task (T.Touch token id hash text) h = tt
+  more-task (T.Untrash hash) h = tt
+  more-task (T.Restart device) h = tt
+
+  more-state : (st : TaskState) → StateBrings P st → StateBrings Q st
+  more-state (S.Open task actor) h = more-task task h
+  more-state (S.Located locator) h = tt
+  more-state S.Ended h = tt
+
+  more-names : (names : Names) → NamesBring P names → NamesBring Q names
+  more-names [] h = tt
+  more-names (e ∷ es) h = (more-state e.1 h.0, more-names es h.1)
+
+  more-scene : (scene : Scene) → SceneBrings P scene → SceneBrings Q scene
+  more-scene scene h = record { held = more-held scene.state.held h.held; names = more-names scene.names h.names }
+
+among-more : (bytes : List ℕ) (more put : List (List ℕ)) → IsAmong bytes put → IsAmong bytes (more ++ put)
+among-more bytes [] put h = h
+among-more bytes (x ∷ xs) put h = inr (among-more bytes xs put h)
+
+-- a line that puts has put its bytes
+put-brings : (put : List (List ℕ)) (o : Option Command) → IfSome o (CommandBrings (λ b. IsAmong b (bytes_put o ++ put)))
+put-brings put None = tt
+put-brings put (Some (C.Open name reading (Open.Put token server bytes hash))) = inl refl
+put-brings put (Some (C.Open name reading (Open.Get token server locator))) = tt
+put-brings put (Some (C.Open name reading (Open.Touch token server locator))) = tt
+put-brings put (Some (C.Open name reading (Open.Untrash token server hash))) = tt
+put-brings put (Some (C.Open name reading (Open.Restart device))) = tt
+put-brings put (Some (C.Finish name reading)) = tt
+
+of-put : (put : List (List ℕ)) (o : Option Read) → IfSome o (λ r. (md5 r.bytes ≡ r.digest) × IsAmong r.bytes put) → IfSome o (IsOfPut put)
+of-put put None h = tt
+of-put put (Some r) h = record { digest = h.0; put_before = h.1 }
+
+-- the rest goes on from what the line left
+rest-of-puts : (c : Configuration) (failed : List ℕ) (put rest : List (List ℕ)) (e : Option Effect) → ((scene : Scene) → SceneBrings (λ b. IsAmong b put) scene → AreOfPuts c failed scene put rest) → EffectBrings (λ b. IsAmong b put) e → IfSome e (λ e. AreOfPuts c failed e.scene put rest)
+rest-of-puts c failed put rest None f h = tt
+rest-of-puts c failed put rest (Some e) f h = f e.scene h
+
+reads-of-puts : (c : Configuration) (failed : List ℕ) (scene : Scene) (put pieces : List (List ℕ)) → SceneBrings (λ b. IsAmong b put) scene → AreOfPuts c failed scene put pieces
+reads-of-puts c failed scene put [] h = tt
+reads-of-puts c failed scene put (piece ∷ rest) h =
+    let o = command_of scene.names (text_of piece) in
+    let now = more-scene (λ b. IsAmong b put) (λ b. IsAmong b (bytes_put o ++ put)) (λ b. among-more b (bytes_put o) put) scene h in (
+      of-put put _ (read-of (λ b. IsAmong b put) c failed scene o h.held),
+      rest-of-puts c failed (bytes_put o ++ put) rest (effect_of_line c failed scene (text_of piece))
+          (λ next k. reads-of-puts c failed next (bytes_put o ++ put) rest k)
+          (line-scene (λ b. IsAmong b (bytes_put o ++ put)) c failed scene (text_of piece) (put-brings put o) now),
+    )
+
+held-none : (P : List ℕ → Type 0) (start : State) → is_empty start ≡ true → HoldAll P start.held
+held-none P start e = none start.held (eqb-true _ _ (and_parts _ _ e).0)
+  where
+    none : (es : List (Name × Stored)) → length es ≡ 0 → HoldAll P es
+    none [] h = tt
+    none (e ∷ es) h = absurd (omega (arith, h))
+
+under : (r : Result Configuration Field) (failed : List ℕ) (start : State) (rest : List (List ℕ)) → is_empty start ≡ true → AreOfPutsUnder r failed start rest
+under (Err field) failed start rest e = tt
+under (Ok c) failed start rest e = reads-of-puts c failed (at_start start).scene [] rest (record { held = held-none (λ b. IsAmong b []) start e; names = tt })
+
+of-pieces : (stores : ℕ) (failed : List ℕ) (start : State) (pieces : List (List ℕ)) → is_empty start ≡ true → ReadsOfPieces stores failed start pieces
+of-pieces stores failed start [] e = tt
+of-pieces stores failed start (piece ∷ rest) e = under (config_for stores (text_of piece)) failed start rest e
+
+reads-are-of-puts : (stores : ℕ) (failed : List ℕ) (start : State) (bytes : List ℕ) → ReadsAreOfPuts stores failed start bytes
+reads-are-of-puts stores failed start bytes e = of-pieces stores failed start (cut bytes) e
+
+pub told-reads : (stores : ℕ) (told : Option (List ℕ)) (start : Option State) → BothTold told start (λ bytes s. (failed : List ℕ) → ReadsAreOfPuts stores failed s bytes)
+told-reads stores None start = tt
+told-reads stores (Some bytes) None = tt
+told-reads stores (Some bytes) (Some s) = λ failed. reads-are-of-puts stores failed s bytes

@@ -1,0 +1,10 @@
+pub mod Asks
+pub mod Calls
+pub mod Held
+pub mod GetsOfPuts
+pub mod LineSteps
+pub mod LineWhole
+pub mod Nexts
+pub mod Replies
+pub mod RunSteps
+pub mod StoreSteps

@@ -1,0 +1,111 @@
+-- What the queries of a task did, where the device's store tells. For private clauses.
+use Rattle.std.specs.Prelude.{◌≡◌, ◌≤◌, ◌+◌, ◌++◌, ℕ, zero, suc, List, [], length, slice_get, Option, Some, option_map, unwrap_or, IfSome, None, Bool, true, false, ◌==◌, if◌then◌else◌}
+use Rattle.keep_spec.specs.Causes.{Rose}
+use Rattle.keep_spec.specs.Config.{Configuration}
+use Rattle.keep_event.specs.Device.{State, Reply}
+use Rattle.keep_event.specs.declared.device.DeviceAnswer.{DeviceAnswer}
+use Rattle.keep_event.specs.declared.task.Outcome.{Outcome}
+use Rattle.keep_event.specs.declared.task.Outcome.TheVariants as O
+use Rattle.keep_event.specs.declared.task.Task.{Task}
+use Rattle.keep_event.specs.declared.task.Task.TheVariants as T
+use Rattle.keep_event.specs.declared.device.DeviceQuery.{DeviceQuery}
+use Rattle.keep_event.specs.declared.device.DeviceQuery.TheVariants as Q
+use Rattle.keep_volume.specs.Calls.{Device, state_of}
+use Rattle.keep_history.specs.Effects.{Scene, Made, Asking, Asked, asked, event_lines, finished, most_turns}
+use Rattle.keep_history.specs.Faults.{AgreeFrom, AreFaults}
+use Rattle.keep_history.specs.Names.{Names}
+use Rattle.keep_history.specs.Tasks.{is_fault, write_end, fetch_end, fetched_none, found_by, nothing, touch_end, brought_none, brought_also, brought_end, writable, next}
+
+-- the answer is that of the machine, or the store failed; and the device has what this leaves
+pub record IsReply (line : State → Reply) (s : State) (state : Option State) (answer : DeviceAnswer) (before now : ℕ) : Type 0 where
+  pub fails : Bool
+  pub rose : fails ≡ true → Rose before now
+  pub later : before ≤ now
+  pub answer_is : answer ≡ (asked fails s (line s)).answer
+  pub state_is : state ≡ Some (asked fails s (line s)).state
+
+abbrev pub asking : Configuration → ℕ → ℕ → Task → List ℕ → Asking
+asking config actor reading task failed = record { config = config; failed = failed; actor = actor; reading = reading; task = task }
+
+-- what the device has after so many events
+abbrev pub IsLeft : List Made → State → Option State → ℕ → Type 0
+IsLeft made s state zero = state ≡ Some s
+IsLeft made s state (suc k) = (x : State) × ((option_map (λ (m : Made). m.left) (slice_get made k) ≡ Some x) × (state ≡ Some x))
+
+-- some events failed, and with these f gives what was asked, printed and left, the number of events, and the end
+pub record HasAsked (n made : ℕ) (s : State) (state : Option State) (before now : ℕ) (name out_before out : List ℕ) (outcome : Outcome) (f : List ℕ → Asked) : Type 0 where
+  pub failed : List ℕ
+  pub asked : Asked
+  pub faults : AreFaults n (n + length asked.made) before now failed
+  pub is : (others : List ℕ) → AgreeFrom n (n + length asked.made) others failed → f others ≡ asked
+  pub state_is : state ≡ Some asked.state
+  pub left : IsLeft asked.made s state (length asked.made)
+  pub made_is : made ≡ length asked.made
+  pub ended : asked.outcome ≡ Some outcome
+  pub out_is : out ≡ out_before ++ event_lines name asked.made
+
+-- the first events of what f gives were made, and some of them failed
+pub record PartAsked (n : ℕ) (s : State) (state : Option State) (before now : ℕ) (f : List ℕ → Asked) : Type 0 where
+  pub made : ℕ
+  pub failed : List ℕ
+  pub faults : AreFaults n (n + made) before now failed
+  pub is : (others : List ℕ) → AgreeFrom n (n + made) others failed → IsLeft (f others).made s state made
+
+-- what stands between two lines, where the store tells
+abbrev pub scene_of : Option State → ℕ → Names → Option Scene
+scene_of state count names = option_map (λ s. record { count = count; state = s; names = names }) state
+
+-- how an answer to a write ends a put on the one device
+abbrev pub write_outcome : Configuration → List ℕ → List ℕ → DeviceAnswer → Outcome
+write_outcome c token bytes answer = unwrap_or (write_end c token bytes answer) (if is_fault answer then O.StoreFault else O.NoRoom)
+
+-- how an answer to a fetch ends a get from the one device
+abbrev pub fetch_outcome : DeviceAnswer → Outcome
+fetch_outcome answer = unwrap_or (fetch_end answer) (fetched_none (found_by nothing answer))
+
+-- how an answer to a touch ends it on the one device
+abbrev pub touch_outcome : Configuration → List ℕ → List ℕ → List ℕ → DeviceAnswer → Outcome
+touch_outcome c token hash text answer = unwrap_or (touch_end c token hash text answer) (if is_fault answer then O.StoreFault else O.NotFound)
+
+abbrev pub untrash_outcome : DeviceAnswer → Outcome
+untrash_outcome answer = brought_end (brought_also brought_none answer)
+
+abbrev pub is_put : Task → Bool
+is_put (T.Put token id block) = true
+is_put _ = false
+
+-- how the one answer to a task of one query ends it
+abbrev pub single_outcome : Configuration → Task → DeviceAnswer → Outcome
+single_outcome c (T.Put token id block) answer = O.NotFound
+single_outcome c (T.Get hash) answer = fetch_outcome answer
+single_outcome c (T.Touch token id hash text) answer = touch_outcome c token hash text answer
+single_outcome c (T.Untrash hash) answer = untrash_outcome answer
+single_outcome c (T.Restart device) answer = O.Restarted
+
+abbrev pub on_writable : Configuration → DeviceQuery → Option DeviceQuery
+on_writable c q = if length (writable c) == 0 then None else Some q
+
+-- the query of a task that has one, where a device is there for it
+abbrev pub single_query : Configuration → Task → Option DeviceQuery
+single_query c (T.Put token id block) = None
+single_query c (T.Get hash) = Some (Q.Fetch hash)
+single_query c (T.Touch token id hash text) = on_writable c (Q.Touch hash (Some id))
+single_query c (T.Untrash hash) = on_writable c (Q.Untrash hash)
+single_query c (T.Restart device) = Some Q.Restart
+
+-- the device that a task of one query asks
+abbrev pub device_of : Task → ℕ
+device_of (T.Restart device) = device
+device_of _ = 0
+
+-- a task was asked until it ended: whatever its events are numbered from, and whoever asks
+abbrev pub IsFinished : Configuration → ℕ → Task → List ℕ → Device → Device → List ℕ → List ℕ → ℕ → Outcome → Type 0
+IsFinished config reading task name old new out_before out made outcome = (n : ℕ) → (actor : ℕ) → IfSome (state_of old) (λ s.
+    HasAsked n made s (state_of new) old.faults new.faults name out_before out outcome
+    (λ failed. finished most_turns (asking config actor reading task failed) n s [] (next config task [])))
+
+-- the first of its queries were asked
+abbrev pub IsPartFinished : Configuration → ℕ → Task → Device → Device → Type 0
+IsPartFinished config reading task old new = (n : ℕ) → (actor : ℕ) → IfSome (state_of old) (λ s.
+    PartAsked n s (state_of new) old.faults new.faults
+    (λ failed. finished most_turns (asking config actor reading task failed) n s [] (next config task [])))

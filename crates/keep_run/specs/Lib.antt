@@ -1,0 +1,6 @@
+pub mod Asked
+pub mod Commands
+pub mod Effects
+pub mod Runs
+pub mod Stores
+pub mod Words
