@@ -1,0 +1,4 @@
+pub mod InPlace
+pub mod ReadCases
+pub mod Updates
+pub mod Versions

@@ -1,0 +1,15 @@
+-- An update that nothing refuses.
+use Rattle.std.proofs.Common.{◌≡◌, ◌<◌, ℕ, Bool, false, nat_le, refl}
+use Rattle.std.specs.Prelude.{Ok}
+use Rattle.std.proofs.lemmas.Bool.{lt-leb}
+use Rattle.keep_event.specs.Table.{State, update, updatable, versions_held, with_update}
+use Rattle.keep_event.specs.declared.table.TableRules.{TableRules}
+use Rattle.keep_event.specs.declared.table.NewRecord.{NewRecord}
+use Rattle.keep_event.specs.declared.table.Collection.{Collection}
+use Rattle.keep_spec.specs.declared.token.TokenId.{TokenId}
+
+pub update-allowed : (rules : TableRules) (reading : ℕ) (token : TokenId) (number : ℕ) (made : NewRecord) (preserve : Bool) (s : State) (x : Collection) →
+    updatable reading token number s ≡ Ok x → versions_held reading number s < rules.versions →
+    update rules reading token number made preserve s ≡ with_update rules reading number made preserve s
+unfolding update
+update-allowed rules reading token number made preserve s x e few = rw (e, lt-leb rules.versions (versions_held reading number s) few) refl
