@@ -70,6 +70,17 @@ pub(crate) fn collection_of(collections: &[Collection], number: u64) -> Option<C
 
 /// Sets both times of a collection.
 pub(crate) fn set_times(
+    collections: &mut Vec<Collection>,
+    number: u64,
+    trash_at: Option<u64>,
+    delete_at: Option<u64>,
+)
+    ensures { collections.new.items ≡ map (machine.with_times number trash_at delete_at) collections.old.items }
+{
+    set_times_of_each(collections, number, trash_at, delete_at);
+}
+
+fn set_times_of_each(
     collections: &mut [Collection],
     number: u64,
     trash_at: Option<u64>,
@@ -308,11 +319,7 @@ fn is_preserved(standing: &Standing) -> bool
 }
 
 /// A collection's current record, or the version that is asked for where it can be read.
-pub(crate) fn version_of(
-    records: &[Record],
-    number: u64,
-    version: Option<u64>,
-) -> Option<&Record>
+pub(crate) fn version_of(records: &[Record], number: u64, version: Option<u64>) -> Option<&Record>
     ensures { option_map (λ r. r.now) result ≡ find (machine.is_readable number version) records.now }
 {
     for row in records {

@@ -20,19 +20,20 @@ pub struct Table {
 }
 
 impl Model for Table {
-    ghost use Rattle.keep_table.specs.Contents.{Contents, IsNumbered};
+    ghost use Rattle.keep_table.specs.Contents.{Contents, AreOrderly, AreDrawn};
 
     ghost Value = { Contents };
 
     ghost view = { λ t. record { rules = t.rules; state = record { records = t.records.items; collections = t.collections.items; numbers = t.numbers; revisions = t.revisions; rounds = t.rounds } } };
 
-    ghost invariant = { λ t. IsNumbered t.revisions t.records.items };
+    ghost invariant = { λ t. AreOrderly t.numbers t.revisions t.records.items × AreDrawn t.numbers t.collections.items };
 }
 
 impl Table {
     ghost use Rattle.std.specs.Prelude.{◌≡◌, ◌≤◌, ◌<◌, ◌*◌, ◌^◌, IsTrue, IfOk};
     ghost use Rattle.keep_event.specs.Table as machine;
-    ghost use Rattle.keep_table.specs.Contents.{IsReply, IsLine};
+    ghost use Rattle.std.specs.Bool.{OnTrue};
+    ghost use Rattle.keep_table.specs.Contents.{IsReply, IsLine, is_updated, AreRowsAbove};
 
     /// An empty table.
     pub fn new(alloc: Global, rules: TableRules) -> Table
@@ -85,7 +86,10 @@ impl Table {
         let number = self.numbers + 1;
         let record = changes::new_record(number, 1, self.revisions + 1, made);
         changes::push_in_room(&mut self.records, record);
-        changes::push_in_room(&mut self.collections, changes::new_collection(number, owner));
+        changes::push_in_room(
+            &mut self.collections,
+            changes::new_collection(number, owner),
+        );
         self.numbers = number;
         self.revisions += 1;
         Ok(TableAnswer::Saved {
@@ -129,7 +133,12 @@ impl Table {
         let delete_at = delete_at
             .max(reading + changes::grace(&self.rules))
             .max(trash_at + changes::guard(&self.rules));
-        changes::set_times(&mut self.collections, collection, Some(trash_at), Some(delete_at));
+        changes::set_times(
+            &mut self.collections,
+            collection,
+            Some(trash_at),
+            Some(delete_at),
+        );
         Ok(TableAnswer::TrashSet {
             trash_at,
             delete_at,
@@ -138,11 +147,7 @@ impl Table {
 
     /// Takes both times of a collection away.
     #[tactic(auto, unfolding(keep_event::specs::Table::restore))]
-    pub fn restore(
-        &mut self,
-        token: TokenId,
-        collection: u64,
-    ) -> Result<TableAnswer, NoMemory>
+    pub fn restore(&mut self, token: TokenId, collection: u64) -> Result<TableAnswer, NoMemory>
         ensures { IsLine (machine.restore token collection self.old.state) self.old self.new result }
     {
         if let Err(refusal) = self.owned(token, collection) {
@@ -208,7 +213,10 @@ impl Table {
     ) -> Result<TableAnswer, NoMemory>
         requires room { IsTrue (machine.has_room self.old.state) }
         requires reading { reading < 4 * 10 ^ 18 }
-        ensures { IsLine (machine.update self.old.rules reading token collection made preserve self.old.state) self.old self.new result }
+        ensures line { IsLine (machine.update self.old.rules reading token collection made preserve self.old.state) self.old self.new result }
+
+        // An update that is made leaves at most so many versions.
+        ensures few { IfOk result (λ answer. OnTrue (is_updated answer) (machine.versions_held reading collection self.new.state ≤ self.new.rules.versions)) }
     {
         if let Err(refusal) = self.updatable(reading, token, collection) {
             return Ok(refusal);
@@ -274,7 +282,8 @@ impl Table {
     #[tactic(auto, unfolding(keep_event::specs::Table::scan))]
     pub fn scan(&mut self, _round: u64, after: u64, limit: u32) -> Result<TableAnswer, NoMemory>
         requires { 0 < limit }
-        ensures { IsLine (machine.scan after limit self.old.state) self.old self.new result }
+        ensures line { IsLine (machine.scan after limit self.old.state) self.old self.new result }
+        ensures rows { IfOk result (AreRowsAbove after) }
     {
         let (rows, last) = changes::rows_after(self.alloc, &self.records, after, limit as usize)?;
         Ok(TableAnswer::Rows { rows, last })

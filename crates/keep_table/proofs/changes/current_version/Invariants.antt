@@ -1,6 +1,5 @@
 use Rattle.std.proofs.Common.{◌≡◌, drop}
 use Rattle.std.specs.List.{find}
-use Rattle.std.specs.Option.{option_map_or}
 use Rattle.keep_event.specs.Table.{is_current_of}
 use Rattle.keep_table.proofs.changes.current_version.Given as goal
 

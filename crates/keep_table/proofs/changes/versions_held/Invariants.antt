@@ -1,4 +1,4 @@
-use Rattle.std.proofs.Common.{◌≡◌, ◌≤◌, take, count_by}
+use Rattle.std.proofs.Common.{◌≡◌, take, count_by}
 use Rattle.keep_event.specs.Table.{is_held}
 use Rattle.keep_table.proofs.changes.versions_held.Given as goal
 

@@ -1,7 +1,6 @@
-use Rattle.std.proofs.Common.{length}
 use Rattle.keep_event.specs.Table.{with_times}
 use Rattle.keep_table.proofs.InPlace.{changes-next}
-use Rattle.keep_table.proofs.changes.set_times.Goals as goal
+use Rattle.keep_table.proofs.changes.set_times_of_each.Goals as goal
 
 pub loop-collection-preserved : goal.loop-collection-preserved
 loop-collection-preserved c =
