@@ -3,6 +3,8 @@
 
 mod changes;
 mod table;
+#[cfg(test)]
+mod tests;
 
 pub use keep_event::{
     Collection, NewRecord, Record, SaveRequest, ScanRow, Standing, TableAnswer, TableRules,
