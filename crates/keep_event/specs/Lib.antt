@@ -1,3 +1,5 @@
 pub mod Block
 pub mod Device
+pub mod Requests
 pub mod Store
+pub mod Table

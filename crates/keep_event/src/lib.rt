@@ -6,6 +6,7 @@ mod device;
 mod event;
 mod lists;
 mod names;
+mod table;
 mod task;
 #[cfg(test)]
 mod tests;
@@ -15,4 +16,8 @@ pub use device::{DeviceAnswer, DeviceQuery, DeviceRules};
 pub use event::{Answer, Event, Journal, Place, Query};
 pub use lists::{Entry, Lists, PullItem, TrashItem};
 pub use names::{Held, Name, Sized, Stored};
+pub use table::{
+    Collection, NewRecord, Record, SaveRequest, ScanRow, Standing, TableAnswer, TableQuery,
+    TableRules,
+};
 pub use task::{Command, Opening, Outcome, Task, TaskState};

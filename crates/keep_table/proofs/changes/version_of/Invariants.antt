@@ -1,0 +1,8 @@
+use Rattle.std.proofs.Common.{◌≡◌, drop}
+use Rattle.std.specs.List.{find}
+use Rattle.keep_event.specs.Table.{is_readable}
+use Rattle.keep_table.proofs.changes.version_of.Given as goal
+
+-- the records that are left decide
+abbrev pub invariant-loop-row : goal.invariant-loop-row
+invariant-loop-row l = find (is_readable l.number l.version) (drop l.row-index l.records) ≡ find (is_readable l.number l.version) l.records

@@ -1,0 +1,55 @@
+-- What contracts see of a table, and what each of its calls does.
+use Rattle.std.specs.Prelude.{◌≡◌, ◌≤◌, ◌<◌, ⊤, ℕ, Bool, true, false, List, [], ◌∷◌, map, count_by, Result, Ok, Err}
+use Rattle.std.specs.List.{AllByRecursion}
+use Rattle.keep_spec.specs.declared.memory.NoMemory.{NoMemory}
+use Rattle.keep_event.specs.declared.table.TableRules.{TableRules}
+use Rattle.keep_event.specs.declared.table.TableAnswer.{TableAnswer}
+use Rattle.keep_event.specs.declared.table.TableAnswer.TheVariants.{Updated, Rows}
+use Rattle.keep_event.specs.Table.{State, Reply, is_current_of}
+use Rattle.keep_event.specs.declared.table.Record.{Record}
+use Rattle.keep_event.specs.declared.table.Collection.{Collection}
+
+-- numbers that rise, each above the one before it and the first above `low`
+abbrev pub RisesAbove : ℕ → List ℕ → Type 0
+RisesAbove low [] = ⊤
+RisesAbove low (n ∷ ns) = (low < n) × RisesAbove n ns
+
+-- none of a record's numbers is above those that were drawn
+pub record IsDrawn (numbers revisions : ℕ) (r : Record) : Type 0 where
+  pub collection : r.collection ≤ numbers
+  pub version : r.version ≤ revisions
+  pub revision : r.revision ≤ revisions
+
+-- records in the order of their revisions, of each collection at most one that is current
+pub record AreOrderly (numbers revisions : ℕ) (rs : List Record) : Type 0 where
+  pub rising : RisesAbove 0 (map (λ r. r.revision) rs)
+  pub drawn : AllByRecursion (IsDrawn numbers revisions) rs
+  pub one_current : (number : ℕ) → count_by (is_current_of number) rs ≤ 1
+
+-- no collection's number is above those that were drawn
+abbrev pub AreDrawn : ℕ → List Collection → Type 0
+AreDrawn numbers xs = AllByRecursion (λ x. x.number ≤ numbers) xs
+
+pub record Contents : Type 0 where
+  pub rules : TableRules
+  pub state : State
+
+-- the answer and the state are the reply's, and the rules stay
+pub record IsReply (reply : Reply) (old new : Contents) (answer : TableAnswer) : Type 0 where
+  pub answered : answer ≡ reply.answer
+  pub changed : new.state ≡ reply.state
+  pub rules : new.rules ≡ old.rules
+
+-- the same, or memory was refused and nothing has changed
+abbrev pub IsLine : Reply → Contents → Contents → Result TableAnswer NoMemory → Type 0
+IsLine reply old new (Ok answer) = IsReply reply old new answer
+IsLine reply old new (Err e) = new ≡ old
+
+abbrev pub is_updated : TableAnswer → Bool
+is_updated (Updated number version portable) = true
+is_updated other = false
+
+-- rows, whose revisions rise from above `after` on
+abbrev pub AreRowsAbove : ℕ → TableAnswer → Type 0
+AreRowsAbove after (Rows rows last) = RisesAbove after (map (λ r. r.revision) rows)
+AreRowsAbove after other = ⊥

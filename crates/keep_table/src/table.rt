@@ -1,0 +1,291 @@
+// The table and its calls.
+use crate::changes;
+use keep_event::{Collection, NewRecord, Record, Standing, TableAnswer, TableRules};
+use keep_spec::{NoMemory, TokenId};
+use std::alloc::Global;
+use std::marker::Model;
+
+/// The table of collections, with the rules of the configuration that it was made with.
+#[derive(Drop, Debug)]
+pub struct Table {
+    alloc: Global,
+    rules: TableRules,
+    // in the order in which they were made
+    records: Vec<Record>,
+    collections: Vec<Collection>,
+    // how many were drawn
+    numbers: u64,
+    revisions: u64,
+    rounds: u64,
+}
+
+impl Model for Table {
+    ghost use Rattle.keep_table.specs.Contents.{Contents, AreOrderly, AreDrawn};
+
+    ghost Value = { Contents };
+
+    ghost view = { λ t. record { rules = t.rules; state = record { records = t.records.items; collections = t.collections.items; numbers = t.numbers; revisions = t.revisions; rounds = t.rounds } } };
+
+    ghost invariant = { λ t. AreOrderly t.numbers t.revisions t.records.items × AreDrawn t.numbers t.collections.items };
+}
+
+impl Table {
+    ghost use Rattle.std.specs.Prelude.{◌≡◌, ◌≤◌, ◌<◌, ◌*◌, ◌^◌, IsTrue, IfOk};
+    ghost use Rattle.keep_event.specs.Table as machine;
+    ghost use Rattle.std.specs.Bool.{OnTrue};
+    ghost use Rattle.keep_table.specs.Contents.{IsReply, IsLine, is_updated, AreRowsAbove};
+
+    /// An empty table.
+    pub fn new(alloc: Global, rules: TableRules) -> Table
+        ensures rules { result.rules ≡ rules }
+        ensures empty { result.state ≡ machine.empty }
+    {
+        Table {
+            alloc,
+            rules,
+            records: Vec::new(alloc),
+            collections: Vec::new(alloc),
+            numbers: 0,
+            revisions: 0,
+            rounds: 0,
+        }
+    }
+
+    /// Whether each counter is below 10^15 − 1.
+    pub fn has_room(&self) -> bool
+        ensures { result ≡ machine.has_room self.now.state }
+    {
+        let most = 999_999_999_999_999;
+        self.numbers < most && self.revisions < most && self.rounds < most
+    }
+
+    /// Begins a round: the next number.
+    #[tactic(auto, unfolding(keep_event::specs::Table::begin_round))]
+    pub fn begin_round(&mut self, reading: u64) -> TableAnswer
+        requires { IsTrue (machine.has_room self.old.state) }
+        ensures { IsReply (machine.begin_round reading self.old.state) self.old self.new result }
+    {
+        self.rounds += 1;
+        TableAnswer::Round {
+            round: self.rounds,
+            started: reading,
+        }
+    }
+
+    /// Stores a new collection of one current record.
+    #[tactic(auto, unfolding(keep_event::specs::Table::create))]
+    pub fn create(&mut self, owner: TokenId, made: NewRecord) -> Result<TableAnswer, NoMemory>
+        requires room { IsTrue (machine.has_room self.old.state) }
+        requires owner { owner.number ≤ self.old.rules.tokens }
+        ensures { IsLine (machine.create owner made self.old.state) self.old self.new result }
+    {
+        if self.records.reserve(1).is_err() || self.collections.reserve(1).is_err() {
+            return Err(NoMemory);
+        }
+        let portable = made.portable;
+        let number = self.numbers + 1;
+        let record = changes::new_record(number, 1, self.revisions + 1, made);
+        changes::push_in_room(&mut self.records, record);
+        changes::push_in_room(
+            &mut self.collections,
+            changes::new_collection(number, owner),
+        );
+        self.numbers = number;
+        self.revisions += 1;
+        Ok(TableAnswer::Saved {
+            number,
+            version: 1,
+            portable,
+        })
+    }
+
+    // The collection, where it is there and the token's.
+    fn owned(&self, token: TokenId, number: u64) -> Result<Collection, TableAnswer>
+        ensures { result ≡ machine.owned token number self.now.state }
+    {
+        let Some(collection) = changes::collection_of(&self.collections, number) else {
+            return Err(TableAnswer::NoSuch);
+        };
+        if changes::is_owner(token, &collection) {
+            Ok(collection)
+        } else {
+            Err(TableAnswer::NotOwner)
+        }
+    }
+
+    /// Sets the times from which a collection is in the trash and goes, both readings. The second is moved so far that no signature that reads it is valid then.
+    #[tactic(auto, unfolding(keep_event::specs::Table::set_trash))]
+    pub fn set_trash(
+        &mut self,
+        reading: u64,
+        token: TokenId,
+        collection: u64,
+        trash_at: u64,
+        delete_at: u64,
+    ) -> Result<TableAnswer, NoMemory>
+        requires reading { reading < 4 * 10 ^ 18 }
+        requires trash_at { trash_at < 4 * 10 ^ 18 }
+        ensures { IsLine (machine.set_trash self.old.rules reading token collection trash_at delete_at self.old.state) self.old self.new result }
+    {
+        if let Err(refusal) = self.owned(token, collection) {
+            return Ok(refusal);
+        }
+        let delete_at = delete_at
+            .max(reading + changes::grace(&self.rules))
+            .max(trash_at + changes::guard(&self.rules));
+        changes::set_times(
+            &mut self.collections,
+            collection,
+            Some(trash_at),
+            Some(delete_at),
+        );
+        Ok(TableAnswer::TrashSet {
+            trash_at,
+            delete_at,
+        })
+    }
+
+    /// Takes both times of a collection away.
+    #[tactic(auto, unfolding(keep_event::specs::Table::restore))]
+    pub fn restore(&mut self, token: TokenId, collection: u64) -> Result<TableAnswer, NoMemory>
+        ensures { IsLine (machine.restore token collection self.old.state) self.old self.new result }
+    {
+        if let Err(refusal) = self.owned(token, collection) {
+            return Ok(refusal);
+        }
+        changes::set_times(&mut self.collections, collection, None, None);
+        Ok(TableAnswer::Restored)
+    }
+
+    // The collection, where it is there, the token's and not in the trash.
+    fn updatable(
+        &self,
+        reading: u64,
+        token: TokenId,
+        number: u64,
+    ) -> Result<Collection, TableAnswer>
+        ensures { result ≡ machine.updatable reading token number self.now.state }
+    {
+        let collection = match self.owned(token, number) {
+            Ok(collection) => collection,
+            Err(refusal) => return Err(refusal),
+        };
+        match collection.trash_at {
+            Some(at) if at <= reading => Err(TableAnswer::InTrash { at }),
+            _ => Ok(collection),
+        }
+    }
+
+    /// The refusal that an update would meet for its collection: NoSuch, NotOwner or InTrash.
+    pub fn may_update(&self, reading: u64, token: TokenId, collection: u64) -> Option<TableAnswer>
+        ensures { result ≡ machine.refusal_of (machine.updatable reading token collection self.now.state) }
+    {
+        match self.updatable(reading, token, collection) {
+            Ok(_) => None,
+            Err(refusal) => Some(refusal),
+        }
+    }
+
+    /// Drops the due versions, and the collections whose time has come with all their records.
+    #[tactic(auto, unfolding(keep_event::specs::Table::sweep))]
+    pub fn sweep(&mut self, reading: u64) -> Result<TableAnswer, NoMemory>
+        ensures { IsLine (machine.sweep reading self.old.state) self.old self.new result }
+    {
+        let versions = changes::count_swept(&self.records, &self.collections, reading);
+        let collections = changes::count_gone(&self.collections, reading);
+        changes::drop_swept(&mut self.records, &self.collections, reading);
+        changes::drop_gone(&mut self.collections, reading);
+        Ok(TableAnswer::Swept {
+            versions,
+            collections,
+        })
+    }
+
+    /// Makes a new current record of a collection; the one before becomes a version, and its due versions go.
+    #[tactic(auto, unfolding(keep_event::specs::Table::update))]
+    pub fn update(
+        &mut self,
+        reading: u64,
+        token: TokenId,
+        collection: u64,
+        made: NewRecord,
+        preserve: bool,
+    ) -> Result<TableAnswer, NoMemory>
+        requires room { IsTrue (machine.has_room self.old.state) }
+        requires reading { reading < 4 * 10 ^ 18 }
+        ensures line { IsLine (machine.update self.old.rules reading token collection made preserve self.old.state) self.old self.new result }
+
+        // An update that is made leaves at most so many versions.
+        ensures few { IfOk result (λ answer. OnTrue (is_updated answer) (machine.versions_held reading collection self.new.state ≤ self.new.rules.versions)) }
+    {
+        if let Err(refusal) = self.updatable(reading, token, collection) {
+            return Ok(refusal);
+        }
+        let held = changes::versions_held(&self.records, reading, collection);
+        if held >= u64::from(self.rules.versions) {
+            return Ok(TableAnswer::TooManyVersions { held });
+        }
+        if self.records.reserve(1).is_err() {
+            return Err(NoMemory);
+        }
+        let portable = made.portable;
+        let version = changes::current_version(&self.records, collection) + 1;
+        let standing = changes::kept_until(&self.rules, reading, preserve);
+        changes::drop_due(&mut self.records, reading, collection);
+        changes::supersede(&mut self.records, collection, standing);
+        let row = changes::new_record(collection, version, self.revisions + 1, made);
+        changes::push_in_room(&mut self.records, row);
+        self.revisions += 1;
+        Ok(TableAnswer::Updated {
+            number: collection,
+            version,
+            portable,
+        })
+    }
+
+    /// Reads a collection's current record, or a version that is preserved, with the expiry of a signed read. A reading is below 4·10^18.
+    #[tactic(auto, unfolding(keep_event::specs::Table::read))]
+    pub fn read(
+        &mut self,
+        reading: u64,
+        token: TokenId,
+        collection: u64,
+        version: Option<u64>,
+    ) -> Result<TableAnswer, NoMemory>
+        requires { reading < 4 * 10 ^ 18 }
+        ensures { IsLine (machine.read self.old.rules reading token collection version self.old.state) self.old self.new result }
+    {
+        self.answer_of_read(reading, token, collection, version)
+    }
+
+    fn answer_of_read(
+        &self,
+        reading: u64,
+        token: TokenId,
+        collection: u64,
+        version: Option<u64>,
+    ) -> Result<TableAnswer, NoMemory>
+        requires { reading < 4 * 10 ^ 18 }
+        ensures { IfOk result (λ answer. machine.read self.now.rules reading token collection version self.now.state ≡ machine.stays answer self.now.state) }
+    {
+        let Some(row) = changes::version_of(&self.records, collection, version) else {
+            return Ok(TableAnswer::NoSuch);
+        };
+        let found = match self.owned(token, collection) {
+            Ok(found) => found,
+            Err(refusal) => return Ok(refusal),
+        };
+        changes::row_answer(self.alloc, &self.rules, reading, row, &found)
+    }
+
+    /// The records above a revision, in the order of their revisions, at most `limit` of them, and whether none is left.
+    #[tactic(auto, unfolding(keep_event::specs::Table::scan))]
+    pub fn scan(&mut self, _round: u64, after: u64, limit: u32) -> Result<TableAnswer, NoMemory>
+        requires { 0 < limit }
+        ensures line { IsLine (machine.scan after limit self.old.state) self.old self.new result }
+        ensures rows { IfOk result (AreRowsAbove after) }
+    {
+        let (rows, last) = changes::rows_after(self.alloc, &self.records, after, limit as usize)?;
+        Ok(TableAnswer::Rows { rows, last })
+    }
+}
