@@ -27,8 +27,11 @@ pub struct Line {
 /// Why there is no further line.
 #[derive(Clone, Copy, Debug, PartialEq, Eq)]
 pub enum LineError {
+    /// The source failed, and has counted it.
     ReadFault,
+    /// The line of this number has more than LINE_MAX bytes before its newline.
     LineTooLong { number: u64 },
+    /// The line to be given, its newline included, holds the byte behind the last that an input may have.
     InputTooLong,
     NoMemory,
 }
@@ -180,6 +183,7 @@ fn find<R: Source>(
 impl<'a, R: Source> Lines<'a, R> {
     ghost use Rattle.keep_base.specs.Lines.{lines_left, lines_failed, lines_taken, lines_number, lines_source, lines_name, IsNext};
 
+    /// The lines of what the source has left.
     pub fn new(alloc: Global, source: &'a mut R) -> Lines<'a, R>
         ensures same_reference { lines_name result ≡ source.entry.ghost_name }
         ensures same_source { lines_source result ≡ source.old }

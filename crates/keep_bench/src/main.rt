@@ -2,6 +2,7 @@
 #![tactic(auto)]
 
 use anyhow::Result;
+use keep_config::Config;
 use keep_locator::Locator;
 use keep_manifest::{BadManifest, Manifest, read};
 use keep_sign::sign_manifest;
@@ -48,6 +49,18 @@ fn read_locators(rt: &HostRuntime, input: &[u8]) -> Result<()> {
     Ok(())
 }
 
+// One configuration a line.
+fn read_configurations(rt: &HostRuntime, input: &[u8]) -> Result<()> {
+    let mut configurations: u64 = 0;
+    for line in input.split(|byte| *byte == b'\n') {
+        if Config::read(rt.alloc(), line).is_ok() {
+            configurations = configurations.saturating_add(1);
+        }
+    }
+    println!(rt; "{configurations} configurations")?;
+    Ok(())
+}
+
 fn sign(rt: &HostRuntime, input: &[u8]) -> Result<()> {
     match sign_manifest(rt.alloc(), input, b"alice", 1700000000, 1209600, b"sesame") {
         Ok(text) => {
@@ -71,6 +84,7 @@ fn main(rt: HostRuntime) -> Result<()> {
             "manifest" => read_manifest(&rt, &input)?,
             "locators" => read_locators(&rt, &input)?,
             "sign" => sign(&rt, &input)?,
+            "config" => read_configurations(&rt, &input)?,
             _ => println!(rt; "no task {task}")?,
         }
     }
