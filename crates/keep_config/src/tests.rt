@@ -84,7 +84,7 @@ fn text_of(alloc: Global, piece: &str, count: usize) -> Result<String, AllocErro
     Ok(text)
 }
 
-static CASES: [(&str, &str, Option<Field>); 90] = [
+static CASES: [(&str, &str, Option<Field>); 92] = [
     ("cluster", "\"a0z9b\"", None),
     ("cluster", "\"zzzz\"", Some(Field::Cluster)),
     ("cluster", "\"zzzzzz\"", Some(Field::Cluster)),
@@ -173,6 +173,11 @@ static CASES: [(&str, &str, Option<Field>); 90] = [
         "[{\"uuid\":\"zzzzz-bi6l4-00000000000000\"}]",
         Some(Field::Servers),
     ),
+    (
+        "servers",
+        "[{\"uuid\":\"zzzzz-bi6l4-000000000000000\"},{\"uuid\":\"zzzzz-bi6l4-000000000000001\"},{\"uuid\":\"zzzzz-bi6l4-000000000000000\"}]",
+        Some(Field::Servers),
+    ),
     ("servers", "[{}]", Some(Field::Servers)),
     ("servers", "[]", Some(Field::Servers)),
     ("servers", "", Some(Field::Servers)),
@@ -199,6 +204,11 @@ static CASES: [(&str, &str, Option<Field>); 90] = [
     (
         "mounts",
         "[{\"uuid\":\"zzzzz-nyw5e-000000000000000\",\"device\":0}]",
+        Some(Field::Mounts),
+    ),
+    (
+        "mounts",
+        "[{\"uuid\":\"zzzzz-nyw5e-000000000000000\",\"server\":0,\"device\":0},{\"uuid\":\"zzzzz-nyw5e-000000000000000\",\"server\":0,\"device\":0}]",
         Some(Field::Mounts),
     ),
     ("mounts", "[]", Some(Field::Mounts)),
@@ -266,6 +276,62 @@ fn fields_are_as_said(rt: HostRuntime) -> Result<(), Fail> {
         Some(Field::Line)
     );
     assert_eq!(rt; refused(alloc, b"{}")?, Some(Field::Cluster));
+    Ok(())
+}
+
+// Each field with a value that it may have.
+static VALUES: [(&str, &str, Field); 13] = [
+    ("cluster", "\"zzzzz\"", Field::Cluster),
+    ("ttl", "100", Field::Ttl),
+    ("skew", "1", Field::Skew),
+    ("secret", "\"sesame\"", Field::Secret),
+    ("system_token", "\"sys\"", Field::SystemToken),
+    ("tokens", "[\"alice\"]", Field::Tokens),
+    ("devices", "[{\"capacity\":0}]", Field::Devices),
+    (
+        "servers",
+        "[{\"uuid\":\"zzzzz-bi6l4-000000000000000\"}]",
+        Field::Servers,
+    ),
+    (
+        "mounts",
+        "[{\"uuid\":\"zzzzz-nyw5e-000000000000000\",\"server\":0,\"device\":0}]",
+        Field::Mounts,
+    ),
+    ("versions", "4", Field::Versions),
+    ("trash_life", "50", Field::TrashLife),
+    ("index_digits", "0", Field::IndexDigits),
+    ("scan_limit", "7", Field::ScanLimit),
+];
+
+// A field that is null, that is of a type that none has, and that stands twice, of which the last counts.
+fn assert_field(
+    rt: &impl Abort,
+    alloc: Global,
+    name: &str,
+    value: &str,
+    field: Field,
+) -> Result<(), Fail> {
+    let null_first = format!(in alloc; "null,\"{name}\":{value}")?;
+    let null_last = format!(in alloc; "{value},\"{name}\":null")?;
+    let cases = [
+        ("null", Some(field)),
+        ("true", Some(field)),
+        (null_first.as_str(), None),
+        (null_last.as_str(), Some(field)),
+    ];
+    for (value, want) in cases {
+        let text = changed(alloc, &[(name, value)])?;
+        assert_eq!(rt; refused(alloc, text.as_bytes())?, want, "{name}: {value}");
+    }
+    Ok(())
+}
+
+#[test]
+fn the_last_value_of_a_name_counts(rt: HostRuntime) -> Result<(), Fail> {
+    for (name, value, field) in &VALUES {
+        assert_field(&rt, rt.alloc(), name, value, *field)?;
+    }
     Ok(())
 }
 
