@@ -3,9 +3,14 @@
 
 use anyhow::Result;
 use keep_config::Config;
+use keep_event::{Block, DeviceAnswer, DeviceRules};
 use keep_locator::Locator;
 use keep_manifest::{BadManifest, Manifest, read};
 use keep_sign::sign_manifest;
+use keep_spec::Bytes;
+use keep_store::MemoryStore;
+use keep_volume::Volume;
+use std::alloc::Global;
 use std::env;
 use std::io::Read;
 
@@ -76,6 +81,47 @@ fn sign(rt: &HostRuntime, input: &[u8]) -> Result<()> {
     Ok(())
 }
 
+fn device(alloc: Global) -> Option<Volume<MemoryStore>> {
+    let rules = DeviceRules {
+        capacity: u64::MAX,
+        read_only: false,
+        grace: 0,
+        trash_life: 0,
+    };
+    Volume::open(alloc, MemoryStore::new(alloc, Vec::new(alloc)), rules).ok()
+}
+
+// Puts a block as a client does, and says whether it was written.
+fn is_written(device: &mut Volume<MemoryStore>, block: &Block) -> bool {
+    let Ok(DeviceAnswer::Absent) = device.compare_touch(1, block, None) else {
+        return false;
+    };
+    matches!(
+        device.write(1, block, None),
+        Ok(DeviceAnswer::Written { .. })
+    )
+}
+
+// One block a line, put into a device that keeps them in memory.
+fn put_blocks(rt: &HostRuntime, input: &[u8]) -> Result<()> {
+    let Some(mut device) = device(rt.alloc()) else {
+        println!(rt; "no device")?;
+        return Ok(());
+    };
+    let mut written: u64 = 0;
+    for line in input.split(|byte| *byte == b'\n') {
+        let bytes = Bytes::of(Vec::from_slice(rt.alloc(), line)?);
+        let Ok(block) = Block::of(bytes) else {
+            continue;
+        };
+        if is_written(&mut device, &block) {
+            written = written.saturating_add(1);
+        }
+    }
+    println!(rt; "{written} blocks")?;
+    Ok(())
+}
+
 fn main(rt: HostRuntime) -> Result<()> {
     let mut input = Vec::new(rt.alloc());
     rt.reader().read_to_end(&mut input)?;
@@ -85,6 +131,7 @@ fn main(rt: HostRuntime) -> Result<()> {
             "locators" => read_locators(&rt, &input)?,
             "sign" => sign(&rt, &input)?,
             "config" => read_configurations(&rt, &input)?,
+            "volume" => put_blocks(&rt, &input)?,
             _ => println!(rt; "no task {task}")?,
         }
     }

@@ -4,12 +4,12 @@ use Rattle.std.specs.List.{insert, remove, slice_set}
 use Rattle.std.specs.List.Sorted.{IsSearchInRange, IsBinarySearchResult}
 use Rattle.std.specs.declared.cmp.Ordering.{Ordering}
 use Rattle.std.specs.declared.cmp.Ordering.TheVariants.{Less, Equal, Greater}
-use Rattle.std.specs.Ordering.{match_ordering, ordering_index}
+use Rattle.std.specs.Ordering.{match_ordering}
 use Rattle.std.proofs.lemmas.Bool.{cases_lt}
 use Rattle.std.proofs.lemmas.List.{at_drop_more, set_split}
 use Rattle.std.proofs.lemmas.Option.{slice_get_read}
 use Rattle.keep_store.specs.Names.{IsPlace}
-use Rattle.keep_event.specs.Store.{Cut, cut, onto, name_cmp, find, put, without, change, move, IsAscending}
+use Rattle.keep_event.specs.Store.{Cut, cut, onto, name_cmp, find, put, without, change, IsAscending}
 use Rattle.keep_event.specs.declared.names.Name.{Name}
 use Rattle.keep_store.proofs.Order.{flip, past-equal, ascending-at, comparisons-rise}
 

@@ -21,7 +21,11 @@ pub struct MemoryStore {
 
 impl MemoryStore {
     /// An empty store whose n-th call fails where n is in the list, counted from 1.
-    pub fn new(alloc: Global, failing: Vec<u64>) -> MemoryStore {
+    pub fn new(alloc: Global, failing: Vec<u64>) -> MemoryStore
+        ensures empty { ⟦<MemoryStore as Store>⟧.held result ≡ Some [] }
+        ensures note { ⟦<MemoryStore as Store>⟧.noted result ≡ Some 0 }
+        ensures faults { ⟦<MemoryStore as Store>⟧.faults result ≡ 0 }
+    {
         MemoryStore {
             names: NameList::new(alloc),
             round: 0,

@@ -17,7 +17,10 @@ pub struct SureStore {
 
 impl SureStore {
     /// An empty store with note 0.
-    pub fn new(alloc: Global) -> SureStore {
+    pub fn new(alloc: Global) -> SureStore
+        ensures empty { ⟦<SureStore as Store>⟧.held result ≡ Some [] }
+        ensures note { ⟦<SureStore as Store>⟧.noted result ≡ Some 0 }
+    {
         SureStore {
             names: NameList::new(alloc),
             round: 0,

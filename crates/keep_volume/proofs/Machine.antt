@@ -15,7 +15,6 @@ use Rattle.keep_event.specs.declared.device.DeviceAnswer.{DeviceAnswer}
 use Rattle.keep_event.specs.declared.device.DeviceAnswer.TheVariants.{ReadOnly, Absent, Touched, Written, Block, Corrupt, Collision, StoreFault, Gone, Skipped, Young, Trashed, Idle, Full, Stale, Cleared, Restarted, Emptied, Accepted, Present, NoTrash, Back, Page, Pull}
 use Rattle.keep_event.specs.declared.lists.PullItem.{PullItem}
 use Rattle.keep_event.specs.declared.lists.Entry.{Entry}
-use Rattle.std.specs.Prelude.{slice_index_or, ◌<◌}
 use Rattle.std.specs.Prelude.{map}
 use Rattle.std.specs.List.{filter}
 use Rattle.keep_event.specs.declared.lists.Lists.{Lists}

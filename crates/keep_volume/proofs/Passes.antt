@@ -1,6 +1,5 @@
 -- How far the trashed copies have been looked through.
-use Rattle.std.proofs.Common.{◌≡◌, ℕ, ◌+◌, ◌<◌, ◌≤◌, min, List, [], ◌∷◌, map, Bool, true, false, Option, None, Some, refl, sym, ◌∙◌, ap, arith, inl, inr, subst}
-use Rattle.std.specs.Prelude.{nat_lt}
+use Rattle.std.proofs.Common.{◌≡◌, ℕ, ◌≤◌, min, List, [], ◌∷◌, map, false, Option, None, Some, refl, sym, ◌∙◌, ap, arith, inl, inr, subst}
 use Rattle.std.specs.declared.cmp.Ordering.{Ordering}
 use Rattle.std.specs.declared.cmp.Ordering.TheVariants.{Less, Equal, Greater}
 use Rattle.std.specs.Ordering.{match_ordering, is_lt}
@@ -13,7 +12,7 @@ use Rattle.keep_event.specs.declared.names.Name.{Name}
 use Rattle.keep_event.specs.declared.names.Sized.{Sized}
 use Rattle.keep_event.specs.declared.names.Held.{Held}
 use Rattle.keep_store.proofs.Order.{order, flip, all-map, all-put, head-below, tail-ascends}
-use Rattle.keep_volume.specs.Index.{is_ahead, Waits, ArePassed, earlier_of, due, sized_held}
+use Rattle.keep_volume.specs.Index.{Waits, ArePassed, earlier_of, due, sized_held}
 
 -- what isn't due isn't due earlier
 pub not-due-earlier : (a b : ℕ) (o : Option ℕ) → a ≤ b → is_due_at b o ≡ false → is_due_at a o ≡ false

@@ -4,7 +4,7 @@ use Rattle.keep_event.specs.Device as machine
 use Rattle.keep_event.specs.Device.{State, Reply}
 use Rattle.keep_event.specs.declared.names.Name.{Name}
 use Rattle.keep_event.specs.declared.names.Stored.{Stored}
-use Rattle.keep_volume.specs.Calls.{Device, IsOpened, IsReopened, state_with, state_of}
+use Rattle.keep_volume.specs.Calls.{Device, IsReopened, state_with}
 use Rattle.keep_volume.proofs.Machine.{restart-done}
 
 pub reopened : (told : Option (List (Name × Stored))) (noted : Option ℕ) (d : Device) → told ≡ d.held → IfSome noted (λ n. n ≡ d.round) → IsReopened told noted d

@@ -1,5 +1,5 @@
 -- A device over a store that may tell what it holds.
-use Rattle.std.specs.Prelude.{◌≡◌, ◌≢◌, ℕ, ◌≤◌, List, Option, Some, option_map, IfSome, Result, Ok, Err, ◌⊎◌, ⊤, drop, [], true}
+use Rattle.std.specs.Prelude.{◌≡◌, ◌≢◌, ℕ, ◌≤◌, List, Option, Some, option_map, IfSome, Result, Ok, Err, ◌⊎◌, ⊤, drop, [], Bool, true, false}
 use Rattle.keep_spec.specs.Causes.{Rose}
 use Rattle.keep_event.specs.Device.{State, Reply, restart}
 use Rattle.keep_event.specs.declared.names.Name.{Name}
@@ -7,6 +7,8 @@ use Rattle.keep_event.specs.declared.names.Stored.{Stored}
 use Rattle.keep_event.specs.declared.lists.TrashItem.{TrashItem}
 use Rattle.keep_event.specs.declared.lists.PullItem.{PullItem}
 use Rattle.keep_event.specs.declared.device.DeviceRules.{DeviceRules}
+use Rattle.keep_event.specs.declared.device.DeviceQuery.{DeviceQuery}
+use Rattle.keep_event.specs.declared.device.DeviceQuery.TheVariants as queries
 use Rattle.keep_event.specs.declared.device.DeviceAnswer.{DeviceAnswer}
 use Rattle.keep_event.specs.declared.device.DeviceAnswer.TheVariants as answers
 use Rattle.keep_volume.specs.declared.volume.OpenError.{OpenError}
@@ -114,3 +116,18 @@ pub record HasIdle (old new : Device) (result : Result DeviceAnswer memory.NoMem
 -- opening the store again leaves what a restart leaves
 abbrev pub IsReopened : Option (List (Name × Stored)) → Option ℕ → Device → Type 0
 IsReopened told noted d = IfSome noted (λ n. (v : Device) → IsOpened told noted d.rules v → state_of v ≡ option_map (λ s. (restart s).state) (state_of d))
+
+-- a query for which memory may be wanted: those that read or write bytes, a page, and lists that are copied
+abbrev pub takes_memory : DeviceQuery → Bool
+takes_memory (queries.CompareTouch block token) = true
+takes_memory (queries.Write block token) = true
+takes_memory (queries.Fetch digest) = true
+takes_memory (queries.Touch digest token) = false
+takes_memory (queries.Clear round) = false
+takes_memory (queries.Accept round lists) = true
+takes_memory (queries.Page round prefix) = true
+takes_memory queries.TrashNext = false
+takes_memory queries.PullNext = false
+takes_memory (queries.Untrash digest) = false
+takes_memory queries.EmptyNext = false
+takes_memory queries.Restart = false

@@ -1,11 +1,11 @@
 // A device over a store.
-ghost use Rattle.std.specs.Prelude.{◌≡◌, ◌↔◌, ◌≤◌, IsTrue, option_copied, [], true, IfOk, IsOk, IfSome, Some, None, option_map, max, map, sum_by, IfErr, ◌+◌, ◌<◌, ◌^◌, slice_get};
+ghost use Rattle.std.specs.Prelude.{◌≡◌, ◌↔◌, ◌≤◌, IsTrue, option_copied, [], true, false, IfOk, IsOk, IfSome, Some, None, option_map, max, map, sum_by, IfErr, ◌+◌, ◌<◌, ◌^◌, slice_get};
 ghost use Rattle.md5.specs.Md5.{md5};
 ghost use Rattle.keep_event.specs.Device as machine;
 ghost use Rattle.keep_event.specs.Store as store;
 ghost use Rattle.keep_event.specs.Store.{find, size_of, sized};
 ghost use Rattle.std.specs.List.{find as list_find, last_or, filter};
-ghost use Rattle.keep_volume.specs.Calls.{IsLine, IsLineAnyway, IsExactly, HasReadOnly, HasStale, HasIdle, IsReopened, state_of, IsStoreCall, IsItem, Device, over, without_first, without_lists, IsOpened, IsGivenBack};
+ghost use Rattle.keep_volume.specs.Calls.{IsLine, IsLineAnyway, IsExactly, HasReadOnly, HasStale, HasIdle, IsReopened, state_of, IsStoreCall, IsItem, Device, over, without_first, without_lists, IsOpened, IsGivenBack, takes_memory};
 ghost use Rattle.keep_store.specs.Causes.{HasStoreCause};
 
 use crate::index::Index;
@@ -135,11 +135,12 @@ impl<S: Store> Volume<S> {
     }
 
     /// Does the call that the query names. The reading is one of the clock, in nanoseconds since 1970 and below 4·10^18.
-    /// Every call answers by the machine's line of its query on what the store tells. StoreFault comes in its place only where the store's count of faults rose, and then nothing has changed, nor has anything after NoMemory. A list is taken as a copy here.
+    /// Every call answers by the machine's line of its query on what the store tells. StoreFault comes in its place only where the store's count of faults rose, and then nothing has changed, nor has anything after NoMemory. A list is taken as a copy here. Only a query that reads or writes bytes, a page, and lists may want memory.
     pub fn step(&mut self, reading: u64, query: &DeviceQuery) -> Result<DeviceAnswer, NoMemory>
         requires { reading < 4000000000000000000 }
         ensures line { IsLine (machine.step self.old.rules reading query.now) self.old self.new result }
         ensures may_fault { result ≡ Ok DeviceAnswer.StoreFault → machine.may_fault query.now ≡ true }
+        ensures sure { takes_memory query.now ≡ false → IsOk result }
     {
         match query {
             DeviceQuery::CompareTouch { block, token } => {

@@ -1,7 +1,7 @@
-use Rattle.std.proofs.Common.{◌≡◌, ◌<◌, ℕ, Some, arith, sym, ◌∙◌, ap, length, drop, get_or, ◌+◌, subst, rules}
+use Rattle.std.proofs.Common.{◌≡◌, arith, sym, ◌∙◌, ap, drop, get_or, ◌+◌}
 use Rattle.std.specs.declared.cmp.Ordering.TheVariants.{Less, Equal}
 use Rattle.std.specs.Ordering.{ordering_then, nat_cmp}
-use Rattle.keep_store.specs.Digits.{nibbles, order_of, order_then, digit_value}
+use Rattle.keep_store.specs.Digits.{nibbles, order_of, order_then}
 use Rattle.keep_store.proofs.Nibbles.{order-at, order-end, length-nibbles}
 use Rattle.keep_store.proofs.digits.digits_order.Goals as goal
 

@@ -1,8 +1,8 @@
-use Rattle.std.proofs.Common.{sym, ◌∙◌, ap, rules, Some, ◌≡◌, ◌∷◌, refl, false}
+use Rattle.std.proofs.Common.{sym, ◌∙◌, ap, rules, ◌≡◌, ◌∷◌, refl, false}
 use Rattle.std.specs.Slice.Iter.{iter_rest}
 use Rattle.std.specs.List.{find as list_find}
 use Rattle.keep_event.specs.Store.{above}
-use Rattle.keep_volume.specs.Index.{ArePassed, due}
+use Rattle.keep_volume.specs.Index.{due}
 use Rattle.keep_volume.proofs.Passes.{find-above, further}
 use Rattle.keep_volume.proofs.index.look_through.Goals as goal
 

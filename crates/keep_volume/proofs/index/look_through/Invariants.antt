@@ -1,4 +1,4 @@
-use Rattle.std.proofs.Common.{◌≡◌, ◌≤◌}
+use Rattle.std.proofs.Common.{◌≡◌}
 use Rattle.std.specs.List.{find as list_find}
 use Rattle.std.specs.Slice.Iter.{iter_rest}
 use Rattle.keep_event.specs.Store.{above}

@@ -1,5 +1,3 @@
-use Rattle.std.proofs.Common.{rules, ◌∙◌, ap}
-use Rattle.keep_volume.specs.Index.{total}
 use Rattle.keep_volume.proofs.Passes.{none-passed, held-ascends}
 use Rattle.keep_volume.proofs.index.Index.of_names.Goals as goal
 

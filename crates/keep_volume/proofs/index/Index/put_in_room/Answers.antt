@@ -1,7 +1,6 @@
-use Rattle.std.proofs.Common.{◌≡◌, ◌∙◌, ap, arith, rules, sym}
+use Rattle.std.proofs.Common.{◌≡◌, ◌∙◌, ap, arith, sym}
 use Rattle.keep_store.specs.Names.{Listed}
 use Rattle.keep_event.specs.declared.names.Sized.{Sized}
-use Rattle.keep_event.specs.Store.{put}
 use Rattle.keep_volume.specs.Index.{total, size_at}
 use Rattle.keep_volume.proofs.Sums.{total-put, size-le}
 use Rattle.keep_volume.proofs.Passes.{passed-put}

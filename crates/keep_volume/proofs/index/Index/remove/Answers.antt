@@ -1,10 +1,10 @@
-use Rattle.std.proofs.Common.{◌≡◌, ◌∙◌, ap, arith, rules, sym}
+use Rattle.std.proofs.Common.{◌≡◌, ◌∙◌, ap, arith, sym}
 use Rattle.keep_store.specs.Names.{Listed}
 use Rattle.keep_event.specs.declared.names.Sized.{Sized}
 use Rattle.keep_event.specs.Store.{without}
 use Rattle.keep_store.proofs.Order.{all-without}
 use Rattle.keep_volume.specs.Index.{total, size_at, Waits}
-use Rattle.keep_volume.proofs.Sums.{total-without, size-le}
+use Rattle.keep_volume.proofs.Sums.{total-without}
 use Rattle.keep_volume.proofs.index.Index.remove.Goals as goal
 
 pub invariant_of-self : goal.invariant_of-self

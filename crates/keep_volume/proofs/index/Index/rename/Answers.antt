@@ -1,4 +1,4 @@
-use Rattle.std.proofs.Common.{sym, arith, rules}
+use Rattle.std.proofs.Common.{sym, arith}
 use Rattle.keep_volume.proofs.Sums.{size-found}
 use Rattle.keep_volume.proofs.index.Index.rename.Goals as goal
 

@@ -1,4 +1,4 @@
-use Rattle.std.proofs.Common.{rules, refl, arith, sym, ◌∙◌}
+use Rattle.std.proofs.Common.{rules, refl, sym, ◌∙◌}
 use Rattle.keep_event.specs.Store.{put, stored, size_of}
 use Rattle.keep_event.specs.declared.device.DeviceAnswer.TheVariants.{Full, Written}
 use Rattle.keep_volume.proofs.Lines.{stays-line, becomes-line, told-map}

@@ -1,4 +1,4 @@
-use Rattle.std.proofs.Common.{refl, arith, sym, ◌∙◌, ◌≡◌, []}
+use Rattle.std.proofs.Common.{refl, arith, ◌≡◌, []}
 use Rattle.keep_event.specs.declared.device.DeviceAnswer.TheVariants.{Idle, Pull}
 use Rattle.keep_volume.proofs.Lines.{stays-line, becomes-line, exactly, told-all, option_map-same}
 use Rattle.keep_volume.proofs.Machine.{pull-idle, pull-done, none-first}
