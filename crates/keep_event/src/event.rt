@@ -1,19 +1,19 @@
 // What happens at one place, and the record of it.
-use crate::{DeviceAnswer, DeviceQuery};
+use crate::{DeviceAnswer, DeviceQuery, TableAnswer, TableQuery};
 use keep_spec::Items;
 
 /// What one place is asked. A device goes by its number in the configuration.
 #[derive(Drop, Debug)]
 pub enum Query {
-    // the table of collections gets its own variant here
     Device(u32, DeviceQuery),
+    Table(TableQuery),
 }
 
 /// What the place that was asked answers.
 #[derive(Drop, Debug)]
 pub enum Answer {
-    // the table of collections gets its own variant here
     Device(DeviceAnswer),
+    Table(TableAnswer),
 }
 
 /// One query and its answer: the number of the event among all, the reading of the clock at it (nanoseconds since 1970), and who asked.

@@ -16,19 +16,24 @@ use Rattle.keep_event.specs.declared.event.Answer.TheVariants as An
 use Rattle.keep_event.specs.declared.task.Command.{Command}
 use Rattle.keep_event.specs.declared.task.Command.TheVariants as C
 use Rattle.keep_event.specs.declared.task.Task.{Task}
+use Rattle.keep_event.specs.declared.task.Task.TheVariants as T
+use Rattle.keep_event.specs.Table as tables
+use Rattle.keep_event.specs.Requests.{table_line}
+use Rattle.keep_event.specs.declared.table.TableQuery.{TableQuery}
 use Rattle.keep_event.specs.declared.task.TaskState.{TaskState}
 use Rattle.keep_event.specs.declared.task.TaskState.TheVariants as S
 use Rattle.keep_event.specs.declared.task.Outcome.{Outcome}
 use Rattle.keep_event.specs.declared.task.Outcome.TheVariants as O
-use Rattle.keep_history.specs.Tasks.{Next, asks, ends, next, opened}
+use Rattle.keep_history.specs.Tasks.{Next, asks, ends, next, opened, table_end}
 use Rattle.keep_history.specs.Names.{Names, state_of_name, with_name}
 use Rattle.keep_history.specs.Script.{command_of}
-use Rattle.keep_history.specs.Printed.{event_line, end_line}
+use Rattle.keep_history.specs.Printed.{event_line, table_event_line, end_line}
 
--- what stands between two lines: how many events there were, the device, and the names
+-- what stands between two lines: how many events there were, the device, the table of collections, and the names
 pub record Scene : Type 0 where
   pub count : ℕ
   pub state : State
+  pub table : tables.State
   pub names : Names
 
 -- an event, and what it left on the device
@@ -106,24 +111,31 @@ most_turns = 128
 abbrev pub state_after : Outcome → TaskState
 state_after (O.Stored locator) = S.Located locator
 state_after (O.Touched locator) = S.Located locator
+state_after (O.Row version want trash_at text) = S.Row text
 state_after _ = S.Ended
 
 -- an opening ends at once, with a line of text, or makes a task, with none; neither makes an event
 abbrev pub open_effect : Scene → List ℕ → Result Task Outcome → Effect
 open_effect scene name (Err outcome) = record {
   made = [];
-  scene = record { count = scene.count; state = scene.state; names = with_name name (state_after outcome) scene.names };
+  scene = record { count = scene.count; state = scene.state; table = scene.table; names = with_name name (state_after outcome) scene.names };
   text = end_line name outcome;
 }
 open_effect scene name (Ok task) = record {
   made = [];
-  scene = record { count = scene.count; state = scene.state; names = with_name name (S.Open task (length scene.names)) scene.names };
+  scene = record { count = scene.count; state = scene.state; table = scene.table; names = with_name name (S.Open task (length scene.names)) scene.names };
   text = [];
 }
 
+-- the device that a query asks
+abbrev pub device_asked : Query → ℕ
+device_asked (Q.Device device query) = device
+device_asked (Q.Table query) = 0
+
 -- one line for each event
 abbrev pub line_of : List ℕ → Query → Answer → List ℕ
-line_of name (Q.Device device query) (An.Device answer) = event_line name device answer
+line_of name query (An.Device answer) = event_line name (device_asked query) answer
+line_of name query (An.Table answer) = table_event_line name answer
 
 abbrev pub event_lines : List ℕ → List Made → List ℕ
 event_lines name [] = []
@@ -142,7 +154,7 @@ line_after_end name (Some outcome) = end_line name outcome
 abbrev pub finish_effect : Scene → List ℕ → Asked → Effect
 finish_effect scene name asked = record {
   made = asked.made;
-  scene = record { count = scene.count + length asked.made; state = asked.state; names = names_after name asked.outcome scene.names };
+  scene = record { count = scene.count + length asked.made; state = asked.state; table = scene.table; names = names_after name asked.outcome scene.names };
   text = event_lines name asked.made ++ line_after_end name asked.outcome;
 }
 
@@ -151,11 +163,31 @@ asked_at c failed scene reading task actor =
     let a : Asking = record { config = c; failed = failed; actor = actor; reading = reading; task = task } in
     finished most_turns a scene.count scene.state [] (next c task [])
 
+-- the table is asked once: its line of the query is the event, and its answer the end
+abbrev pub table_effect : Configuration → Scene → List ℕ → ℕ → ℕ → TableQuery → Effect
+table_effect c scene name reading actor q =
+    let reply = table_line c reading q scene.table in
+    let outcome = table_end c q reply.answer in
+    record {
+      made = record {
+        event = record { tick = scene.count; reading = reading; actor = actor; query = Q.Table q; answer = An.Table reply.answer };
+        left = scene.state;
+      } ∷ [];
+      scene = record { count = scene.count + 1; state = scene.state; table = reply.state; names = with_name name (state_after outcome) scene.names };
+      text = table_event_line name reply.answer ++ end_line name outcome;
+    }
+
+-- a task that is open is finished at the table or at the devices
+abbrev pub task_effect : Configuration → List ℕ → Scene → List ℕ → ℕ → Task → ℕ → Effect
+task_effect c failed scene name reading (T.Table q) actor = table_effect c scene name reading actor q
+task_effect c failed scene name reading task actor = finish_effect scene name (asked_at c failed scene reading task actor)
+
 -- a name is finished where its task is open
 abbrev pub finish_state : Configuration → List ℕ → Scene → List ℕ → ℕ → Option TaskState → Option Effect
 finish_state c failed scene name reading None = None
-finish_state c failed scene name reading (Some (S.Open task actor)) = Some (finish_effect scene name (asked_at c failed scene reading task actor))
+finish_state c failed scene name reading (Some (S.Open task actor)) = Some (task_effect c failed scene name reading task actor)
 finish_state c failed scene name reading (Some (S.Located locator)) = None
+finish_state c failed scene name reading (Some (S.Row text)) = None
 finish_state c failed scene name reading (Some S.Ended) = None
 
 -- what a command does, where it can be done

@@ -1,7 +1,16 @@
 -- What is printed of each event and of each task that ends. That words stand so is this project's rule.
-use Rattle.std.specs.Prelude.{ℕ, List, [], ◌∷◌, ◌++◌, length, codes}
+use Rattle.std.specs.Prelude.{ℕ, List, [], ◌∷◌, ◌++◌, length, codes, Bool, if◌then◌else◌, Option, None, Some}
 use Rattle.std.specs.Fmt.{decimal}
 use Rattle.hex.specs.Hex.{encode_lower}
+use Rattle.json.specs.Print.{quoted}
+use Rattle.keep_spec.specs.Portable.{portable_text}
+use Rattle.keep_spec.specs.declared.manifest.Kind.{Kind}
+use Rattle.keep_spec.specs.declared.manifest.Kind.TheVariants as K
+use Rattle.keep_spec.specs.declared.portable.Portable.{Portable}
+use Rattle.keep_spec.specs.declared.unverified.Unverified.{Unverified}
+use Rattle.keep_spec.specs.declared.unverified.Unverified.TheVariants as U
+use Rattle.keep_event.specs.declared.table.TableAnswer.{TableAnswer}
+use Rattle.keep_event.specs.declared.table.TableAnswer.TheVariants as TA
 use Rattle.keep_event.specs.declared.device.DeviceAnswer.{DeviceAnswer}
 use Rattle.keep_event.specs.declared.device.DeviceAnswer.TheVariants as A
 use Rattle.keep_event.specs.declared.task.Outcome.{Outcome}
@@ -41,6 +50,50 @@ answer_words (A.Emptied digest deadline) = codes "Emptied" ++ digest_field diges
 answer_words A.Restarted = codes "Restarted"
 answer_words A.StoreFault = codes "StoreFault"
 
+-- THE TABLE
+abbrev pub optional_field : Option ℕ → List ℕ
+optional_field None = codes " -"
+optional_field (Some n) = number_field n
+
+abbrev pub portable_field : Portable → List ℕ
+portable_field p = 32 ∷ portable_text p
+
+abbrev pub kind_word : Kind → List ℕ
+kind_word K.BadStream = codes "BadStream"
+kind_word K.BadLocator = codes "BadLocator"
+kind_word K.NoSegment = codes "NoSegment"
+kind_word K.BadSegment = codes "BadSegment"
+kind_word K.BadName = codes "BadName"
+kind_word K.PastEnd = codes "PastEnd"
+kind_word K.NoNewline = codes "NoNewline"
+
+abbrev pub why_words : Unverified → List ℕ
+why_words U.Missing = codes " Missing"
+why_words (U.Expired expiry) = codes " Expired" ++ number_field expiry
+why_words U.Invalid = codes " Invalid"
+
+abbrev pub last_word : Bool → List ℕ
+last_word last = if last then codes " last" else codes " more"
+
+abbrev pub table_words : TableAnswer → List ℕ
+table_words (TA.Round round started) = codes "Round" ++ number_field round ++ number_field started
+table_words (TA.Saved n version portable) = codes "Saved" ++ number_field n ++ number_field version ++ portable_field portable
+table_words (TA.Updated n version portable) = codes "Updated" ++ number_field n ++ number_field version ++ portable_field portable
+table_words (TA.Row n version expiry want trash_at text) = codes "Row" ++ number_field n ++ number_field version ++ optional_field expiry
+table_words (TA.TrashSet trash_at delete_at) = codes "TrashSet" ++ number_field trash_at ++ number_field delete_at
+table_words TA.Restored = codes "Restored"
+table_words (TA.Swept versions collections) = codes "Swept" ++ number_field versions ++ number_field collections
+table_words (TA.Rows rows last) = codes "Rows" ++ number_field (length rows) ++ last_word last
+table_words TA.UnknownToken = codes "UnknownToken"
+table_words TA.NoSuch = codes "NoSuch"
+table_words TA.NotOwner = codes "NotOwner"
+table_words (TA.InTrash at) = codes "InTrash" ++ number_field at
+table_words (TA.BadManifest at kind) = codes "BadManifest" ++ number_field at ++ 32 ∷ kind_word kind
+table_words (TA.Unsigned index why) = codes "Unsigned" ++ number_field index ++ why_words why
+table_words (TA.WrongHash computed) = codes "WrongHash" ++ portable_field computed
+table_words TA.BadWant = codes "BadWant"
+table_words (TA.TooManyVersions held) = codes "TooManyVersions" ++ number_field held
+
 -- the word of an end and its fields; no bytes are the word alone
 abbrev pub bytes_field : List ℕ → List ℕ
 bytes_field [] = []
@@ -63,10 +116,21 @@ outcome_words O.Forbidden = codes "Forbidden"
 outcome_words (O.Expired expiry) = codes "Expired" ++ number_field expiry
 outcome_words O.NotFound = codes "NotFound"
 outcome_words (O.Corrupt found) = codes "Corrupt" ++ digest_field found
+outcome_words (O.Saved uuid version portable) = codes "Saved " ++ uuid ++ number_field version ++ portable_field portable
+outcome_words (O.Updated uuid version portable) = codes "Updated " ++ uuid ++ number_field version ++ portable_field portable
+outcome_words (O.Row version want trash_at text) = codes "Row" ++ number_field version ++ number_field want ++ optional_field trash_at ++ 32 ∷ quoted text
+outcome_words (O.TrashSet trash_at delete_at) = codes "TrashSet" ++ number_field trash_at ++ number_field delete_at
+outcome_words O.Restored = codes "Restored"
+outcome_words (O.Swept versions collections) = codes "Swept" ++ number_field versions ++ number_field collections
+outcome_words (O.Refused answer) = table_words answer
 
 -- the line of an event of a named task on a device
 unfoldable pub event_line : List ℕ → ℕ → DeviceAnswer → List ℕ
 event_line name device answer = name ++ codes " d" ++ decimal device ++ 32 ∷ answer_words answer ++ codes "\n"
+
+-- the line of an event of a named task at the table
+unfoldable pub table_event_line : List ℕ → TableAnswer → List ℕ
+table_event_line name answer = name ++ codes " table " ++ table_words answer ++ codes "\n"
 
 -- the line of a named task's end
 unfoldable pub end_line : List ℕ → Outcome → List ℕ

@@ -7,6 +7,7 @@ use Rattle.keep_spec.specs.declared.config.Field.TheVariants as F
 use Rattle.keep_spec.specs.declared.status.Status.{Status}
 use Rattle.keep_spec.specs.declared.status.Status.TheVariants.{Done, BadConfig, BadLine, LineTooLong, InputTooLong, NotEmpty}
 use Rattle.keep_event.specs.Device.{State}
+use Rattle.keep_event.specs.Table as tables
 use Rattle.keep_history.specs.Effects.{Made, Effect, effect_of_line}
 
 -- A line has no bound of its own yet: this is more than an input can have.
@@ -44,7 +45,7 @@ run_lines c failed taken number sofar (piece ∷ rest) =
 
 -- nothing is done yet on a device
 abbrev pub at_start : State → Effect
-at_start s = record { made = []; scene = record { count = 0; state = s; names = [] }; text = [] }
+at_start s = record { made = []; scene = record { count = 0; state = s; table = tables.empty; names = [] }; text = [] }
 
 -- THE CONFIGURATION AND THE STORES
 -- what of a configuration can't be had: each device wants a store, and so far a cluster has one device, one server and one mount

@@ -1,14 +1,15 @@
 -- The script line of a text: a JSON object with exactly the members of its kind. The language is this project's own.
-use Rattle.std.specs.Prelude.{ℕ, ◌+◌, ◌==◌, ◌&&◌, ◌||◌, nat_lt, nat_le, List, length, Bool, true, false, Option, None, Some, is_some, is_none, option_and_then, option_map, if◌then◌else◌, codes, Result, Ok, Err}
+use Rattle.std.specs.Prelude.{ℕ, ◌+◌, ◌==◌, ◌&&◌, ◌||◌, nat_lt, nat_le, List, [], ◌++◌, length, Bool, true, false, Option, None, Some, is_some, is_none, option_and_then, option_map, if◌then◌else◌, codes, Result, Ok, Err}
 use Rattle.std.specs.Char.{is_ascii_alphanumeric}
 use Rattle.std.specs.List.{list_all}
 use Rattle.std.specs.Str.{bytes_eq}
 use Rattle.hex.specs.Hex.{decode_of, encode_lower}
 use Rattle.hex.specs.declared.error.FromHexError.{FromHexError}
-use Rattle.serde_json.specs.Data.{Data}
-use Rattle.serde_json.specs.Find.{get, as_str}
+use Rattle.serde_json.specs.Data.{Data, Items, no_items, item}
+use Rattle.serde_json.specs.Find.{get, as_str, as_array, as_number, as_u64}
 use Rattle.keep_spec.specs.Digest.{is_digest, bytes_of_digits}
-use Rattle.keep_spec.specs.Json.{value_of, text_at, number_at, has_members}
+use Rattle.keep_spec.specs.Json.{value_of, text_at, number_at, truth_or, has_members}
+use Rattle.keep_event.specs.declared.table.SaveRequest.{SaveRequest}
 use Rattle.keep_event.specs.declared.task.Command.{Command}
 use Rattle.keep_event.specs.declared.task.Command.TheVariants as C
 use Rattle.keep_event.specs.declared.task.Opening.{Opening}
@@ -129,6 +130,116 @@ device_at d = option_and_then (λ n. if n == 0 then Some n else None) (number_at
 abbrev pub restart_of_data : Data → Option Opening
 restart_of_data d = option_and_then (λ device. if has_members 4 d then Some (O.Restart device) else None) (device_at d)
 
+-- MANIFESTS
+abbrev pub ended_text : Option TaskState → Option (List ℕ)
+ended_text (Some (S.Row text)) = Some text
+ended_text _ = None
+
+-- an object with the one member `manifest`, a name: the text of a task that ended Row
+abbrev pub text_of_reference : Names → Data → Option (List ℕ)
+text_of_reference names d =
+    if has_members 1 d then option_and_then (λ name. ended_text (state_of_name name names)) (text_at (codes "manifest") d) else None
+
+-- a part of a manifest is a text, the locator of a task, or the text of a task
+abbrev pub part_of_data : Names → Data → Option (List ℕ)
+part_of_data names d = or_else (locator_of_data names d) (text_of_reference names d)
+
+-- the parts joined
+abbrev pub joined_parts : Names → Items → Option (List ℕ)
+joined_parts names no_items = Some []
+joined_parts names (item d ds) = option_and_then (λ part. option_map (λ rest. part ++ rest) (joined_parts names ds)) (part_of_data names d)
+
+-- a manifest is a text or a list of parts
+abbrev pub manifest_of_data : Names → Data → Option (List ℕ)
+manifest_of_data names d = or_else (as_str d) (option_and_then (joined_parts names) (as_array d))
+
+-- COLLECTIONS
+-- a text that need not be given
+abbrev pub text_of_data : Option Data → Option (Option (List ℕ))
+text_of_data None = Some None
+text_of_data (Some d) = option_map Some (as_str d)
+
+-- a whole number that need not be given
+abbrev pub number_of_data : Option Data → Option (Option ℕ)
+number_of_data None = Some None
+number_of_data (Some d) = option_map Some (option_and_then as_u64 (as_number d))
+
+-- so many members, and one more where a member is there
+abbrev pub members_if : ℕ → Bool → ℕ
+members_if n there = if there then n + 1 else n
+
+-- at most 10^18
+abbrev pub want_at : Data → Option ℕ
+want_at d = option_and_then (λ n. if nat_le n 1000000000000000000 then Some n else None) (number_at (codes "want") d)
+
+-- `token`, `manifest`, `want`, and `portable` where it is given
+abbrev pub request_of_data : Names → Data → Option SaveRequest
+request_of_data names d =
+    option_and_then (λ token. option_and_then (λ text. option_and_then (λ want. option_map (λ portable.
+    record { token = token; text = text; want = want; portable = portable })
+    (text_of_data (get (codes "portable") d)))
+    (want_at d))
+    (option_and_then (manifest_of_data names) (get (codes "manifest") d)))
+    (text_at (codes "token") d)
+
+-- `open`, `at`, `do` and the request
+abbrev pub save_of_data : Names → Data → Option Opening
+save_of_data names d =
+    if has_members (members_if 6 (is_some (get (codes "portable") d))) d then option_map O.Save (request_of_data names d) else None
+
+-- `open`, `at`, `do`, `collection`, `preserve` where it is given, and the request
+abbrev pub update_of_data : Names → Data → Option Opening
+update_of_data names d =
+    if has_members (members_if (members_if 7 (is_some (get (codes "portable") d))) (is_some (get (codes "preserve") d))) d
+    then
+    option_and_then (λ collection. option_and_then (λ preserve. option_map (O.Update collection preserve) (request_of_data names d))
+    (truth_or false (codes "preserve") d)) (text_at (codes "collection") d)
+    else None
+
+-- `open`, `at`, `do`, `token`, `collection`, and `version` where it is given
+abbrev pub read_of_data : Data → Option Opening
+read_of_data d =
+    if has_members (members_if 5 (is_some (get (codes "version") d))) d
+    then
+    option_and_then (λ token. option_and_then (λ collection. option_map (O.Read token collection)
+    (number_of_data (get (codes "version") d))) (text_at (codes "collection") d)) (text_at (codes "token") d)
+    else None
+
+-- a reading at a name
+abbrev pub time_at : List ℕ → Data → Option ℕ
+time_at field d = option_and_then (λ n. if nat_lt n 4000000000000000000 then Some n else None) (number_at field d)
+
+-- `open`, `at`, `do`, `token`, `collection`, `trash_at` and `delete_at`
+abbrev pub trash_of_data : Data → Option Opening
+trash_of_data d =
+    if has_members 7 d
+    then
+    option_and_then (λ token. option_and_then (λ collection. option_and_then (λ trash_at. option_map (O.Trash token collection trash_at)
+    (time_at (codes "delete_at") d)) (time_at (codes "trash_at") d)) (text_at (codes "collection") d)) (text_at (codes "token") d)
+    else None
+
+-- `open`, `at`, `do`, `token` and `collection`
+abbrev pub restore_of_data : Data → Option Opening
+restore_of_data d =
+    if has_members 5 d
+    then option_and_then (λ token. option_map (O.Restore token) (text_at (codes "collection") d)) (text_at (codes "token") d)
+    else None
+
+-- `open`, `at` and `do`
+abbrev pub sweep_of_data : Data → Option Opening
+sweep_of_data d = if has_members 3 d then Some O.Sweep else None
+
+-- the kinds that ask the table
+abbrev pub table_opening_of_kind : Names → List ℕ → Data → Option Opening
+table_opening_of_kind names kind d =
+    if bytes_eq kind (codes "save") then save_of_data names d
+    else if bytes_eq kind (codes "update") then update_of_data names d
+    else if bytes_eq kind (codes "read") then read_of_data d
+    else if bytes_eq kind (codes "trash") then trash_of_data d
+    else if bytes_eq kind (codes "restore") then restore_of_data d
+    else if bytes_eq kind (codes "sweep") then sweep_of_data d
+    else None
+
 abbrev pub opening_of_kind : Names → List ℕ → Data → Option Opening
 opening_of_kind names kind d =
     if bytes_eq kind (codes "put") then put_of_data d
@@ -136,7 +247,7 @@ opening_of_kind names kind d =
     else if bytes_eq kind (codes "touch") then touch_of_data names d
     else if bytes_eq kind (codes "untrash") then untrash_of_data d
     else if bytes_eq kind (codes "restart") then restart_of_data d
-    else None
+    else table_opening_of_kind names kind d
 
 -- LINES
 -- a name that no line has opened

@@ -1,17 +1,24 @@
 -- Tasks: how an opening ends at once or what task it makes, and what a task asks next or how it ends, a function of the task and of the answers so far. The order of the tests is this project's rule.
-use Rattle.std.specs.Prelude.{ℕ, ◌+◌, ◌/◌, ◌-◌, ◌^◌, ◌==◌, ◌||◌, nat_lt, min, not, filter, List, [], ◌∷◌, ◌++◌, length, Bool, true, false, Option, None, Some, Result, Ok, Err, if◌then◌else◌, codes, option_map, unwrap_or, slice_get}
+use Rattle.std.specs.Prelude.{ℕ, ◌+◌, ◌/◌, ◌-◌, ◌^◌, ◌==◌, ◌||◌, ◌&&◌, nat_lt, nat_le, min, not, filter, take, drop, replicate, is_none, List, [], ◌∷◌, ◌++◌, length, Bool, true, false, Option, None, Some, Result, Ok, Err, if◌then◌else◌, codes, option_map, unwrap_or, slice_get}
 use Rattle.std.specs.Str.{bytes_eq}
+use Rattle.std.specs.List.{list_all}
 use Rattle.std.specs.Fmt.{decimal}
 use Rattle.hex.specs.Hex.{encode_lower}
 use Rattle.md5.specs.Md5.{md5}
 use Rattle.keep_spec.specs.Sign.{hex8, signature_of, verdict}
-use Rattle.keep_spec.specs.Locator.{is_locator, locator_front, is_empty_block, digest, stripped}
+use Rattle.keep_spec.specs.Locator.{is_locator, locator_front, is_empty_block, digest, stripped, number}
 use Rattle.keep_spec.specs.Config.{Configuration, token_of}
 use Rattle.keep_spec.specs.declared.config.Device.{Device}
 use Rattle.keep_spec.specs.declared.token.TokenId.{TokenId}
 use Rattle.keep_spec.specs.declared.unverified.Triple.{Triple}
 use Rattle.keep_spec.specs.declared.unverified.Unverified.{Unverified}
 use Rattle.keep_spec.specs.declared.unverified.Unverified.TheVariants as U
+use Rattle.keep_spec.specs.Refusals.{bad}
+use Rattle.keep_spec.specs.SignedText.{signed, with_locators}
+use Rattle.keep_event.specs.declared.table.TableQuery.{TableQuery}
+use Rattle.keep_event.specs.declared.table.TableQuery.TheVariants as TQ
+use Rattle.keep_event.specs.declared.table.TableAnswer.{TableAnswer}
+use Rattle.keep_event.specs.declared.table.TableAnswer.TheVariants as TA
 use Rattle.keep_event.specs.declared.device.DeviceQuery.{DeviceQuery}
 use Rattle.keep_event.specs.declared.device.DeviceQuery.TheVariants as Q
 use Rattle.keep_event.specs.declared.device.DeviceAnswer.{DeviceAnswer}
@@ -111,6 +118,29 @@ abbrev pub with_token : Option TokenId → (TokenId → Result Task Outcome) →
 with_token None make = Err O.UnknownToken
 with_token (Some id) make = make id
 
+-- COLLECTIONS
+-- the UUID of a collection: the cluster's name, its kind, and the number in decimal with zeros before it up to 15 digits
+abbrev pub padded : ℕ → List ℕ
+padded n = replicate (15 - length (decimal n)) 48 ++ decimal n
+
+abbrev pub kind_of_collections : List ℕ
+kind_of_collections = codes "-4zz18-"
+
+unfoldable pub collection_uuid : Configuration → ℕ → List ℕ
+collection_uuid c n = c.cluster ++ kind_of_collections ++ padded n
+
+-- a UUID of this cluster's collections
+abbrev pub is_collection : Configuration → List ℕ → Bool
+is_collection c text =
+    (length text == 27) && bytes_eq (take 12 text) (c.cluster ++ kind_of_collections) && list_all (λ b. nat_le 48 b && nat_le b 57) (drop 12 text)
+
+-- the number of a collection; a text that is no UUID of the cluster's has the number 0, which no collection has
+unfoldable pub collection_number : Configuration → List ℕ → ℕ
+collection_number c text = if is_collection c text then number (drop 12 text) else 0
+
+abbrev pub asks_table : TableQuery → Result Task Outcome
+asks_table q = Ok (T.Table q)
+
 -- the task that an opening makes at a reading, or how it ends at once
 unfoldable pub opened : Configuration → Opening → ℕ → Result Task Outcome
 opened c (Open.Put token server bytes hash) reading = with_token (token_of c token) (λ id. put_opened c id token bytes hash)
@@ -118,6 +148,12 @@ opened c (Open.Get token server locator) reading = with_token (token_of c token)
 opened c (Open.Touch token server locator) reading = with_token (token_of c token) (λ id. touch_opened c id token locator reading)
 opened c (Open.Untrash token server hash) reading = with_token (token_of c token) (λ id. untrash_opened c id hash)
 opened c (Open.Restart device) reading = Ok (T.Restart device)
+opened c (Open.Save request) reading = asks_table (TQ.Save request)
+opened c (Open.Update collection preserve request) reading = asks_table (TQ.Update (collection_number c collection) preserve request)
+opened c (Open.Read token collection version) reading = asks_table (TQ.Read token (collection_number c collection) version)
+opened c (Open.Trash token collection trash_at delete_at) reading = asks_table (TQ.SetTrash token (collection_number c collection) trash_at delete_at)
+opened c (Open.Restore token collection) reading = asks_table (TQ.Restore token (collection_number c collection))
+opened c Open.Sweep reading = asks_table TQ.Sweep
 
 -- QUERIES AND ENDS
 -- a task asks a device, or has ended
@@ -238,10 +274,31 @@ unfoldable pub restarts : ℕ → List DeviceAnswer → Next
 restarts device [] = asks device Q.Restart
 restarts device (a ∷ answers) = ends O.Restarted
 
--- the next query of a task after these answers, or its end
+-- the next query to a device of a task after these answers, or its end; the table is asked otherwise
 unfoldable pub next : Configuration → Task → List DeviceAnswer → Next
 next c (T.Put token id block) answers = compares c id token block (writable c) (writable c) answers
 next c (T.Get hash) answers = fetches hash nothing devices answers
 next c (T.Touch token id hash text) answers = touches c id token hash text false (writable c) answers
 next c (T.Untrash hash) answers = untrashes hash brought_none (writable c) answers
 next c (T.Restart device) answers = restarts device answers
+next c (T.Table q) answers = ends O.NotFound
+
+-- the token of a query of the table that has one
+abbrev pub token_of_query : TableQuery → List ℕ
+token_of_query (TQ.Read token collection version) = token
+token_of_query _ = []
+
+-- a row's text with each locator signed for the token; a text that isn't a manifest, which the table never gives, stays
+abbrev pub signed_text : Configuration → List ℕ → Option ℕ → List ℕ → List ℕ
+signed_text c token None text = text
+signed_text c token (Some expiry) text = if is_none (bad text) then with_locators (signed token expiry c.ttl c.secret) text else text
+
+-- how the table's answer ends a task
+unfoldable pub table_end : Configuration → TableQuery → TableAnswer → Outcome
+table_end c q (TA.Saved n version portable) = O.Saved (collection_uuid c n) version portable
+table_end c q (TA.Updated n version portable) = O.Updated (collection_uuid c n) version portable
+table_end c q (TA.Row n version expiry want trash_at text) = O.Row version want trash_at (signed_text c (token_of_query q) expiry text)
+table_end c q (TA.TrashSet trash_at delete_at) = O.TrashSet trash_at delete_at
+table_end c q TA.Restored = O.Restored
+table_end c q (TA.Swept versions collections) = O.Swept versions collections
+table_end c q answer = O.Refused answer

@@ -6,6 +6,7 @@ use Rattle.keep_base.specs.Sources.{AppendsPrefix}
 use Rattle.keep_spec.specs.Config.{Configuration}
 use Rattle.keep_spec.specs.declared.status.Status.TheVariants as St
 use Rattle.keep_event.specs.Device.{State}
+use Rattle.keep_event.specs.Table as tables
 use Rattle.keep_event.specs.declared.task.Command.{Command}
 use Rattle.keep_history.specs.Effects.{Scene, Effect, effect_of_command, effect_of_line, no_effect}
 use Rattle.keep_history.specs.Names.{Names}
@@ -23,9 +24,9 @@ pub is_empty : (text : List ℕ) → length text ≡ 0 → text ≡ []
 is_empty [] e = refl
 is_empty (x ∷ xs) e = absurd (omega arith)
 
-pub scene-state : (state : Option State) (count : ℕ) (names : Names) (scene : Scene) → scene_of state count names ≡ Some scene → state ≡ Some scene.state
-scene-state None count names scene e = absurd cc
-scene-state (Some s) count names scene e = ap (option_map (λ (x : Scene). x.state)) e
+pub scene-state : (state : Option State) (count : ℕ) (table : tables.State) (names : Names) (scene : Scene) → scene_of state count table names ≡ Some scene → state ≡ Some scene.state
+scene-state None count table names scene e = absurd cc
+scene-state (Some s) count table names scene e = ap (option_map (λ (x : Scene). x.state)) e
 
 effect-empty : (config : Configuration) (failed : List ℕ) (scene : Scene) (text : List ℕ) → text ≡ [] → effect_of_line config failed scene text ≡ Some (no_effect scene)
 effect-empty config failed scene text e = rw e refl
@@ -58,22 +59,22 @@ module _ (config : Configuration) (text : List ℕ) (number : ℕ) where
     ap Some (sym (append-nil t)),
   )
 
-  module _ (count : ℕ) (names : Names) (scene' : Option Scene) (before now : ℕ) (command : Command) (some : text ≢ []) (is_command : command_of names text ≡ Some command) where
-    line-done : (s : State) (out_before out : List ℕ) → out_before ≡ [] → HasEffect count scene' before now out_before out (λ failed. effect_of_command config failed (scene_at count names s) command) → LineDone config text (scene_at count names s) scene' before now
+  module _ (count : ℕ) (table : tables.State) (names : Names) (scene' : Option Scene) (before now : ℕ) (command : Command) (some : text ≢ []) (is_command : command_of names text ≡ Some command) where
+    line-done : (s : State) (out_before out : List ℕ) → out_before ≡ [] → HasEffect count scene' before now out_before out (λ failed. effect_of_command config failed (scene_at count table names s) command) → LineDone config text (scene_at count table names s) scene' before now
     line-done s out_before out nil h = record {
       out = out;
       effect = record {
         failed = h.failed;
         effect = h.effect;
         faults = h.faults;
-        is = λ others agree. effect-command config others (scene_at count names s) text command some is_command ∙ h.is others agree;
+        is = λ others agree. effect-command config others (scene_at count table names s) text command some is_command ∙ h.is others agree;
         grows = h.grows;
         scene_is = h.scene_is;
         out_is = h.out_is ∙ ap (λ v. v ++ h.effect.text) nil;
       };
     }
 
-    pub line-done-told : (o state' : Option State) (taken taken' : Option (List ℕ)) (out_before out written : List ℕ) → out_before ≡ [] → IfSome o (λ s. HasEffect count scene' before now out_before out (λ failed. effect_of_command config failed (scene_at count names s) command)) → written ≡ out → Appends taken taken' written → BothTold (scene_of o count names) taken (λ s t. IsLineDone config text number s scene' state' before now t taken' (Ok tt))
+    pub line-done-told : (o state' : Option State) (taken taken' : Option (List ℕ)) (out_before out written : List ℕ) → out_before ≡ [] → IfSome o (λ s. HasEffect count scene' before now out_before out (λ failed. effect_of_command config failed (scene_at count table names s) command)) → written ≡ out → Appends taken taken' written → BothTold (scene_of o count table names) taken (λ s t. IsLineDone config text number s scene' state' before now t taken' (Ok tt))
     unfolding line-done
     line-done-told None state' taken taken' out_before out written nil h w a = tt
     line-done-told (Some s) state' None taken' out_before out written nil h w a = tt
@@ -81,20 +82,20 @@ module _ (config : Configuration) (text : List ℕ) (number : ℕ) where
     line-done-told (Some s) state' (Some t) (Some t') out_before out written nil h w a =
         (line-done s out_before out nil h, ap Some (a ∙ ap (λ v. t ++ v) w))
 
-    pub line-fault-told : (o state' : Option State) (count' : ℕ) (names' : Names) (taken taken' : Option (List ℕ)) (out_before out written : List ℕ) → scene' ≡ scene_of state' count' names' → out_before ≡ [] → IfSome o (λ s. HasEffect count scene' before now out_before out (λ failed. effect_of_command config failed (scene_at count names s) command)) → written ≡ out → AppendsPrefix taken taken' written → BothTold (scene_of o count names) taken (λ s t. IsLineDone config text number s scene' state' before now t taken' (Err St.WriteFault))
+    pub line-fault-told : (o state' : Option State) (count' : ℕ) (table' : tables.State) (names' : Names) (taken taken' : Option (List ℕ)) (out_before out written : List ℕ) → scene' ≡ scene_of state' count' table' names' → out_before ≡ [] → IfSome o (λ s. HasEffect count scene' before now out_before out (λ failed. effect_of_command config failed (scene_at count table names s) command)) → written ≡ out → AppendsPrefix taken taken' written → BothTold (scene_of o count table names) taken (λ s t. IsLineDone config text number s scene' state' before now t taken' (Err St.WriteFault))
     unfolding line-done
-    line-fault-told None state' count' names' taken taken' out_before out written sc nil h w a = tt
-    line-fault-told (Some s) state' count' names' None taken' out_before out written sc nil h w a = tt
-    line-fault-told (Some s) state' count' names' (Some t) None out_before out written sc nil h w (k, within, a) = absurd a
-    line-fault-told (Some s) state' count' names' (Some t) (Some t') out_before out written sc nil h w (k, within, a) =
+    line-fault-told None state' count' table' names' taken taken' out_before out written sc nil h w a = tt
+    line-fault-told (Some s) state' count' table' names' None taken' out_before out written sc nil h w a = tt
+    line-fault-told (Some s) state' count' table' names' (Some t) None out_before out written sc nil h w (k, within, a) = absurd a
+    line-fault-told (Some s) state' count' table' names' (Some t) (Some t') out_before out written sc nil h w (k, within, a) =
         let d = line-done s out_before out nil h in
-        (scene', (d, (scene-state state' count' names' h.effect.scene (sym sc ∙ h.scene_is), (k, ap Some (a ∙ ap (λ v. t ++ take k v) w)))))
+        (scene', (d, (scene-state state' count' table' names' h.effect.scene (sym sc ∙ h.scene_is), (k, ap Some (a ∙ ap (λ v. t ++ take k v) w)))))
 
-    pub line-refuses-told : (o state' : Option State) (taken : Option (List ℕ)) → IfSome o (λ s. ((failed : List ℕ) → effect_of_command config failed (scene_at count names s) command ≡ None) × (state' ≡ Some s)) → BothTold (scene_of o count names) taken (λ s t. IsLineDone config text number s scene' state' before now t taken (Err (St.BadLine number)))
+    pub line-refuses-told : (o state' : Option State) (taken : Option (List ℕ)) → IfSome o (λ s. ((failed : List ℕ) → effect_of_command config failed (scene_at count table names s) command ≡ None) × (state' ≡ Some s)) → BothTold (scene_of o count table names) taken (λ s t. IsLineDone config text number s scene' state' before now t taken (Err (St.BadLine number)))
     line-refuses-told None state' taken h = tt
     line-refuses-told (Some s) state' None h = tt
     line-refuses-told (Some s) state' (Some t) h =
-        (refl, (λ failed. effect-command config failed (scene_at count names s) text command some is_command ∙ h.0 failed), h.1, refl)
+        (refl, (λ failed. effect-command config failed (scene_at count table names s) text command some is_command ∙ h.0 failed), h.1, refl)
 
     part-same : (from : ℕ) (s : State) (state : Option State) (f f' : List ℕ → Option Effect) → ((F : List ℕ) → f F ≡ f' F) → PartDone from s state before now f → PartDone from s state before now f'
     part-same from s state f f' same p = record {
@@ -104,24 +105,24 @@ module _ (config : Configuration) (text : List ℕ) (number : ℕ) where
       is = λ others agree. subst (λ v. IsAfter v s state p.made) (same others) (p.is others agree);
     }
 
-    pub line-stops-told : (o state' : Option State) (taken : Option (List ℕ)) → IfSome o (λ s. PartDone count s state' before now (λ failed. effect_of_command config failed (scene_at count names s) command)) → BothTold (scene_of o count names) taken (λ s t. IsLineDone config text number s scene' state' before now t taken (Err St.NoMemory))
+    pub line-stops-told : (o state' : Option State) (taken : Option (List ℕ)) → IfSome o (λ s. PartDone count s state' before now (λ failed. effect_of_command config failed (scene_at count table names s) command)) → BothTold (scene_of o count table names) taken (λ s t. IsLineDone config text number s scene' state' before now t taken (Err St.NoMemory))
     line-stops-told None state' taken h = tt
     line-stops-told (Some s) state' None h = tt
     line-stops-told (Some s) state' (Some t) h = (
-      part-same count s state' (λ failed. effect_of_command config failed (scene_at count names s) command) (λ failed. effect_of_line config failed (scene_at count names s) text)
-          (λ F. sym (effect-command config F (scene_at count names s) text command some is_command)) h,
+      part-same count s state' (λ failed. effect_of_command config failed (scene_at count table names s) command) (λ failed. effect_of_line config failed (scene_at count table names s) text)
+          (λ F. sym (effect-command config F (scene_at count table names s) text command some is_command)) h,
       refl,
     )
 
-  pub line-bad-told : (o : Option State) (count : ℕ) (names : Names) (scene' : Option Scene) (before : ℕ) (taken : Option (List ℕ)) → text ≢ [] → command_of names text ≡ None → BothTold (scene_of o count names) taken (λ s t. IsLineDone config text number s scene' o before before t taken (Err (St.BadLine number)))
-  line-bad-told None count names scene' before taken ne e = tt
-  line-bad-told (Some s) count names scene' before None ne e = tt
-  line-bad-told (Some s) count names scene' before (Some t) ne e = (refl, (λ failed. effect-none config failed (scene_at count names s) text ne e), refl, refl)
+  pub line-bad-told : (o : Option State) (count : ℕ) (table : tables.State) (names : Names) (scene' : Option Scene) (before : ℕ) (taken : Option (List ℕ)) → text ≢ [] → command_of names text ≡ None → BothTold (scene_of o count table names) taken (λ s t. IsLineDone config text number s scene' o before before t taken (Err (St.BadLine number)))
+  line-bad-told None count table names scene' before taken ne e = tt
+  line-bad-told (Some s) count table names scene' before None ne e = tt
+  line-bad-told (Some s) count table names scene' before (Some t) ne e = (refl, (λ failed. effect-none config failed (scene_at count table names s) text ne e), refl, refl)
 
-  pub line-refused-told : (o : Option State) (count : ℕ) (names : Names) (scene' : Option Scene) (before : ℕ) (taken : Option (List ℕ)) → BothTold (scene_of o count names) taken (λ s t. IsLineDone config text number s scene' o before before t taken (Err St.NoMemory))
-  line-refused-told None count names scene' before taken = tt
-  line-refused-told (Some s) count names scene' before None = tt
-  line-refused-told (Some s) count names scene' before (Some t) = (
+  pub line-refused-told : (o : Option State) (count : ℕ) (table : tables.State) (names : Names) (scene' : Option Scene) (before : ℕ) (taken : Option (List ℕ)) → BothTold (scene_of o count table names) taken (λ s t. IsLineDone config text number s scene' o before before t taken (Err St.NoMemory))
+  line-refused-told None count table names scene' before taken = tt
+  line-refused-told (Some s) count table names scene' before None = tt
+  line-refused-told (Some s) count table names scene' before (Some t) = (
     record { made = 0; failed = []; faults = AreFaults-none count (count + 0) before before (omega arith); is = λ others agree. refl },
     refl,
   )

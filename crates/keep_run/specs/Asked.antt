@@ -3,6 +3,9 @@ use Rattle.std.specs.Prelude.{◌≡◌, ◌≤◌, ◌+◌, ◌++◌, ℕ, zero
 use Rattle.keep_spec.specs.Causes.{Rose}
 use Rattle.keep_spec.specs.Config.{Configuration}
 use Rattle.keep_event.specs.Device.{State, Reply}
+use Rattle.keep_event.specs.Table as tables
+use Rattle.keep_event.specs.Requests.{table_line}
+use Rattle.keep_event.specs.declared.table.TableQuery.{TableQuery}
 use Rattle.keep_event.specs.declared.device.DeviceAnswer.{DeviceAnswer}
 use Rattle.keep_event.specs.declared.task.Outcome.{Outcome}
 use Rattle.keep_event.specs.declared.task.Outcome.TheVariants as O
@@ -14,7 +17,8 @@ use Rattle.keep_volume.specs.Calls.{Device, state_of}
 use Rattle.keep_history.specs.Effects.{Scene, Made, Asking, Asked, asked, event_lines, finished, most_turns}
 use Rattle.keep_history.specs.Faults.{AgreeFrom, AreFaults}
 use Rattle.keep_history.specs.Names.{Names}
-use Rattle.keep_history.specs.Tasks.{is_fault, write_end, fetch_end, fetched_none, found_by, nothing, touch_end, brought_none, brought_also, brought_end, writable, next}
+use Rattle.keep_history.specs.Printed.{table_event_line}
+use Rattle.keep_history.specs.Tasks.{is_fault, write_end, fetch_end, fetched_none, found_by, nothing, touch_end, brought_none, brought_also, brought_end, writable, next, table_end}
 
 -- the answer is that of the machine, or the store failed; and the device has what this leaves
 pub record IsReply (line : State → Reply) (s : State) (state : Option State) (answer : DeviceAnswer) (before now : ℕ) : Type 0 where
@@ -52,8 +56,8 @@ pub record PartAsked (n : ℕ) (s : State) (state : Option State) (before now : 
   pub is : (others : List ℕ) → AgreeFrom n (n + made) others failed → IsLeft (f others).made s state made
 
 -- what stands between two lines, where the store tells
-abbrev pub scene_of : Option State → ℕ → Names → Option Scene
-scene_of state count names = option_map (λ s. record { count = count; state = s; names = names }) state
+abbrev pub scene_of : Option State → ℕ → tables.State → Names → Option Scene
+scene_of state count table names = option_map (λ s. record { count = count; state = s; table = table; names = names }) state
 
 -- how an answer to a write ends a put on the one device
 abbrev pub write_outcome : Configuration → List ℕ → List ℕ → DeviceAnswer → Outcome
@@ -70,6 +74,10 @@ touch_outcome c token hash text answer = unwrap_or (touch_end c token hash text 
 abbrev pub untrash_outcome : DeviceAnswer → Outcome
 untrash_outcome answer = brought_end (brought_also brought_none answer)
 
+abbrev pub is_table : Task → Bool
+is_table (T.Table q) = true
+is_table _ = false
+
 abbrev pub is_put : Task → Bool
 is_put (T.Put token id block) = true
 is_put _ = false
@@ -81,6 +89,7 @@ single_outcome c (T.Get hash) answer = fetch_outcome answer
 single_outcome c (T.Touch token id hash text) answer = touch_outcome c token hash text answer
 single_outcome c (T.Untrash hash) answer = untrash_outcome answer
 single_outcome c (T.Restart device) answer = O.Restarted
+single_outcome c (T.Table q) answer = O.NotFound
 
 abbrev pub on_writable : Configuration → DeviceQuery → Option DeviceQuery
 on_writable c q = if length (writable c) == 0 then None else Some q
@@ -92,6 +101,7 @@ single_query c (T.Get hash) = Some (Q.Fetch hash)
 single_query c (T.Touch token id hash text) = on_writable c (Q.Touch hash (Some id))
 single_query c (T.Untrash hash) = on_writable c (Q.Untrash hash)
 single_query c (T.Restart device) = Some Q.Restart
+single_query c (T.Table q) = None
 
 -- the device that a task of one query asks
 abbrev pub device_of : Task → ℕ
@@ -109,3 +119,22 @@ abbrev pub IsPartFinished : Configuration → ℕ → Task → Device → Device
 IsPartFinished config reading task old new = (n : ℕ) → (actor : ℕ) → IfSome (state_of old) (λ s.
     PartAsked n s (state_of new) old.faults new.faults
     (λ failed. finished most_turns (asking config actor reading task failed) n s [] (next config task [])))
+
+-- THE TABLE
+-- the table was asked once: nothing is changed but the table, and the event's line is printed
+pub record IsTableAsked (config : Configuration) (reading : ℕ) (q : TableQuery) (name : List ℕ) (old new : Device) (table table' : tables.State) (out_before out : List ℕ) (made : ℕ) (outcome : Outcome) : Type 0 where
+  pub device : new ≡ old
+  pub changed : table' ≡ (table_line config reading q table).state
+  pub made_is : made ≡ 1
+  pub ended : outcome ≡ table_end config q (table_line config reading q table).answer
+  pub out_is : out ≡ out_before ++ table_event_line name (table_line config reading q table).answer
+
+-- a task was asked, at the table or at the device, until it ended
+abbrev pub IsTaskDone : Configuration → ℕ → Task → List ℕ → Device → Device → tables.State → tables.State → List ℕ → List ℕ → ℕ → Outcome → Type 0
+IsTaskDone config reading (T.Table q) name old new table table' out_before out made outcome = IsTableAsked config reading q name old new table table' out_before out made outcome
+IsTaskDone config reading task name old new table table' out_before out made outcome = IsFinished config reading task name old new out_before out made outcome × (table' ≡ table)
+
+-- the first of a task's queries to the device were asked
+abbrev pub IsTaskStopped : Configuration → ℕ → Task → Device → Device → Type 0
+IsTaskStopped config reading (T.Table q) old new = new ≡ old
+IsTaskStopped config reading task old new = IsPartFinished config reading task old new

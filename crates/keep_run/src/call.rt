@@ -13,6 +13,7 @@ ghost use Rattle.keep_spec.specs.declared.config.Field.{Field as TheField};
 use crate::run::{run_lines, status_of};
 use crate::stage::Stage;
 use keep_base::{Lines, Sink, Source};
+use keep_collections::{Table, rules_of as table_rules_of};
 use keep_config::{Config, ConfigError};
 use keep_event::DeviceRules;
 use keep_spec::{Field, Status};
@@ -79,12 +80,14 @@ fn run_store<R: Source, W: Sink, S: Store>(
     }
     let mut stage = Stage {
         volume,
+        table: Table::new(alloc, table_rules_of(config)),
         names: BTreeMap::new(alloc),
         events: 0,
     };
     let status = run_lines(alloc, config, lines, &mut stage, sink);
     let Stage {
         volume,
+        table: _,
         names: _,
         events: _,
     } = stage;

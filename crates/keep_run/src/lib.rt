@@ -3,6 +3,7 @@
 
 mod asking;
 mod call;
+mod collections;
 mod locator;
 mod opening;
 mod run;

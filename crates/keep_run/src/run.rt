@@ -3,7 +3,10 @@ ghost use Rattle.std.specs.Prelude.{◌≡◌, ◌≢◌, ◌≤◌, ◌<◌, �
 ghost use Rattle.keep_spec.specs.Causes.{Rose};
 ghost use Rattle.keep_base.specs.Lines.{lines_left, lines_failed, lines_taken, lines_number, lines_source, lines_name};
 ghost use Rattle.keep_volume.specs.Calls.{state_of};
+ghost use Rattle.keep_event.specs.Table as tables;
+ghost use Rattle.keep_event.specs.Requests.{rules_of as table_rules_of};
 ghost use Rattle.keep_history.specs.Effects.{rules_of};
+ghost use Rattle.keep_run.specs.Commands.{AreFew, RisesByOne};
 ghost use Rattle.keep_run.specs.Asked.{scene_of};
 ghost use Rattle.keep_run.specs.Runs.{IsLineDone, BothTold, AllTold, Ended, status_of_line, IsOfLine};
 ghost use Rattle.keep_spec.specs.declared.config.Field.{Field as TheField};
@@ -28,11 +31,15 @@ fn run_line<W: Sink, S: Store>(
     requires rules { stage.old.volume.rules ≡ rules_of config.now }
     requires events { stage.old.events < 2 ^ 62 }
     requires few { length stage.old.names.entries < 2 ^ 32 }
-    ensures told { BothTold (scene_of (state_of stage.old.volume) stage.old.events stage.old.names.entries) (W.taken sink.old) (λ scene t.
-        IsLineDone config.now line.now.text line.now.number scene (scene_of (state_of stage.new.volume) stage.new.events stage.new.names.entries) (state_of stage.new.volume)
+    requires table_rules { stage.old.table.rules ≡ table_rules_of config.now }
+    requires table_few { AreFew (2 ^ 40) stage.old.table.state }
+    ensures told { BothTold (scene_of (state_of stage.old.volume) stage.old.events stage.old.table.state stage.old.names.entries) (W.taken sink.old) (λ scene t.
+        IsLineDone config.now line.now.text line.now.number scene (scene_of (state_of stage.new.volume) stage.new.events stage.new.table.state stage.new.names.entries) (state_of stage.new.volume)
         stage.old.volume.faults stage.new.volume.faults t (W.taken sink.new) result) }
     ensures of_line { IsOfLine result }
     ensures rules { stage.new.volume.rules ≡ stage.old.volume.rules }
+    ensures table_rules { stage.new.table.rules ≡ stage.old.table.rules }
+    ensures table_few { IfOk result (λ _. RisesByOne stage.old.table.state stage.new.table.state) }
     ensures events { IfOk result (λ _. stage.new.events ≤ stage.old.events + 2) }
     ensures few { IfOk result (λ _. length stage.new.names.entries ≤ length stage.old.names.entries + 2) }
     ensures store_later { stage.old.volume.faults ≤ stage.new.volume.faults }
@@ -91,6 +98,8 @@ pub(crate) fn run_lines<R: Source, W: Sink, S: Store>(
     requires one { length config.now.devices ≡ 1 }
     requires rules { stage.old.volume.rules ≡ rules_of config.now }
     requires events { stage.old.events ≡ 0 }
+    requires table { stage.old.table.state ≡ tables.empty }
+    requires table_rules { stage.old.table.rules ≡ table_rules_of config.now }
     requires names { stage.old.names.entries ≡ [] }
     ensures told { AllTold (lines_left lines.old) (state_of stage.old.volume) (W.taken sink.old) (λ bytes s t.
         Ended config.now (lines_taken lines.old) (lines_number lines.old) bytes s t result (state_of stage.new.volume) stage.old.volume.faults stage.new.volume.faults (W.taken sink.new)) }

@@ -1,12 +1,15 @@
 // What a command does.
 ghost use Rattle.std.specs.Prelude.{◌≡◌, ◌≤◌, ◌<◌, ◌+◌, ◌^◌, Ok, true, false, OnOk, OnErr, IfOk, length};
+ghost use Rattle.keep_event.specs.Requests.{rules_of as table_rules_of};
 ghost use Rattle.keep_history.specs.Effects.{rules_of, state_after};
 ghost use Rattle.keep_history.specs.Names.{state_of_name, with_name};
 ghost use Rattle.keep_history.specs.Script.{reading_of};
-ghost use Rattle.keep_run.specs.Commands.{DoesCommand, RefusesCommand, StopsCommand, open_task_of};
+ghost use Rattle.keep_run.specs.Commands.{AreFew, DoesCommand, RefusesCommand, RisesByOne, StopsCommand, open_task_of};
 
-use crate::asking::{Finished, finish};
+use crate::asking::Finished;
+use crate::collections::ask_task;
 use crate::opening::opened;
+use keep_collections::Table;
 use keep_config::Config;
 use keep_event::{Command, Opening, Outcome, Task, TaskState};
 use keep_script::push_end_line;
@@ -16,10 +19,11 @@ use keep_volume::Volume;
 use std::alloc::Global;
 use std::collections::BTreeMap;
 
-/// What stands between two lines: the device, what became of each name, and how many events there were.
+/// What stands between two lines: the device, the table of collections, what became of each name, and how many events there were.
 #[derive(Drop)]
 pub(crate) struct Stage<S: Store> {
     pub(crate) volume: Volume<S>,
+    pub(crate) table: Table,
     pub(crate) names: BTreeMap<Bytes, TaskState>,
     pub(crate) events: u64,
 }
@@ -30,6 +34,12 @@ fn state_after(outcome: Outcome) -> TaskState
     match outcome {
         Outcome::Stored { locator } => TaskState::Located { locator },
         Outcome::Touched { locator } => TaskState::Located { locator },
+        Outcome::Row {
+            version: _,
+            want: _,
+            trash_at: _,
+            text,
+        } => TaskState::Row { text },
         _ => TaskState::Ended,
     }
 }
@@ -72,9 +82,10 @@ fn open_task<S: Store>(
 ) -> Result<(), NoMemory>
     requires one { length config.now.devices ≡ 1 }
     requires few { length stage.old.names.entries < 2 ^ 32 }
-    ensures done { OnOk result (DoesCommand config.now (Command.Open name reading opening) stage.old.volume stage.old.events stage.old.names.entries stage.new.volume stage.new.events stage.new.names.entries out.old.items out.new.items) }
-    ensures stopped { OnErr result (StopsCommand config.now (Command.Open name reading opening) stage.old.volume stage.old.events stage.old.names.entries stage.new.volume) }
+    ensures done { OnOk result (DoesCommand config.now (Command.Open name reading opening) stage.old.volume stage.old.events stage.old.table.state stage.old.names.entries stage.new.volume stage.new.events stage.new.table.state stage.new.names.entries out.old.items out.new.items) }
+    ensures stopped { OnErr result (StopsCommand config.now (Command.Open name reading opening) stage.old.volume stage.old.events stage.old.table.state stage.old.names.entries stage.new.volume) }
     ensures volume { stage.new.volume ≡ stage.old.volume }
+    ensures table { stage.new.table ≡ stage.old.table }
     ensures events { stage.new.events ≡ stage.old.events }
     ensures few { length stage.new.names.entries ≤ length stage.old.names.entries + 1 }
 {
@@ -104,11 +115,15 @@ fn finish_task<S: Store>(
     requires rules { stage.old.volume.rules ≡ rules_of config.now }
     requires events { stage.old.events < 2 ^ 62 }
     requires reading { reading < 4000000000000000000 }
-    ensures done { result ≡ Ok true → DoesCommand config.now (Command.Finish name reading) stage.old.volume stage.old.events stage.old.names.entries stage.new.volume stage.new.events stage.new.names.entries out.old.items out.new.items }
-    ensures refused { result ≡ Ok false → RefusesCommand config.now (Command.Finish name reading) stage.old.volume stage.old.events stage.old.names.entries stage.new.volume }
-    ensures stopped { OnErr result (StopsCommand config.now (Command.Finish name reading) stage.old.volume stage.old.events stage.old.names.entries stage.new.volume) }
+    requires table_rules { stage.old.table.rules ≡ table_rules_of config.now }
+    requires table_few { AreFew (2 ^ 40) stage.old.table.state }
+    ensures done { result ≡ Ok true → DoesCommand config.now (Command.Finish name reading) stage.old.volume stage.old.events stage.old.table.state stage.old.names.entries stage.new.volume stage.new.events stage.new.table.state stage.new.names.entries out.old.items out.new.items }
+    ensures refused { result ≡ Ok false → RefusesCommand config.now (Command.Finish name reading) stage.old.volume stage.old.events stage.old.table.state stage.old.names.entries stage.new.volume }
+    ensures stopped { OnErr result (StopsCommand config.now (Command.Finish name reading) stage.old.volume stage.old.events stage.old.table.state stage.old.names.entries stage.new.volume) }
     ensures later { stage.old.volume.faults ≤ stage.new.volume.faults }
     ensures rules { stage.new.volume.rules ≡ stage.old.volume.rules }
+    ensures table_rules { stage.new.table.rules ≡ stage.old.table.rules }
+    ensures table_few { IfOk result (λ _. RisesByOne stage.old.table.state stage.new.table.state) }
     ensures events { IfOk result (λ _. stage.new.events ≤ stage.old.events + 2) }
     ensures few { IfOk result (λ _. length stage.new.names.entries ≤ length stage.old.names.entries + 2) }
 {
@@ -116,10 +131,11 @@ fn finish_task<S: Store>(
     let Some(task) = open_task_of(state) else {
         return Ok(false);
     };
-    let Finished { outcome, events } = finish(
+    let Finished { outcome, events } = ask_task(
         alloc,
         config,
         &mut stage.volume,
+        &mut stage.table,
         reading,
         name.as_slice(),
         &task,
@@ -144,11 +160,15 @@ pub(crate) fn do_command<S: Store>(
     requires events { stage.old.events < 2 ^ 62 }
     requires few { length stage.old.names.entries < 2 ^ 32 }
     requires reading { reading_of command < 4000000000000000000 }
-    ensures done { result ≡ Ok true → DoesCommand config.now command stage.old.volume stage.old.events stage.old.names.entries stage.new.volume stage.new.events stage.new.names.entries out.old.items out.new.items }
-    ensures refused { result ≡ Ok false → RefusesCommand config.now command stage.old.volume stage.old.events stage.old.names.entries stage.new.volume }
-    ensures stopped { OnErr result (StopsCommand config.now command stage.old.volume stage.old.events stage.old.names.entries stage.new.volume) }
+    requires table_rules { stage.old.table.rules ≡ table_rules_of config.now }
+    requires table_few { AreFew (2 ^ 40) stage.old.table.state }
+    ensures done { result ≡ Ok true → DoesCommand config.now command stage.old.volume stage.old.events stage.old.table.state stage.old.names.entries stage.new.volume stage.new.events stage.new.table.state stage.new.names.entries out.old.items out.new.items }
+    ensures refused { result ≡ Ok false → RefusesCommand config.now command stage.old.volume stage.old.events stage.old.table.state stage.old.names.entries stage.new.volume }
+    ensures stopped { OnErr result (StopsCommand config.now command stage.old.volume stage.old.events stage.old.table.state stage.old.names.entries stage.new.volume) }
     ensures later { stage.old.volume.faults ≤ stage.new.volume.faults }
     ensures rules { stage.new.volume.rules ≡ stage.old.volume.rules }
+    ensures table_rules { stage.new.table.rules ≡ stage.old.table.rules }
+    ensures table_few { IfOk result (λ _. RisesByOne stage.old.table.state stage.new.table.state) }
     ensures events { IfOk result (λ _. stage.new.events ≤ stage.old.events + 2) }
     ensures few { IfOk result (λ _. length stage.new.names.entries ≤ length stage.old.names.entries + 2) }
 {

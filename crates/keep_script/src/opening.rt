@@ -5,6 +5,7 @@ ghost use Rattle.serde_json.specs.Find.{get};
 ghost use Rattle.keep_history.specs.Script.{digest_at, digest_of_data, ended_locator, get_of_data, locator_of_data, locator_of_reference, members_with, opening_of_kind, put_of_data, restart_of_data, touch_of_data, untrash_of_data};
 ghost use Rattle.keep_history.specs.Names.{state_of_name};
 
+use crate::collections::table_opening_of_kind;
 use crate::fields::{copied, device_at, server_at};
 use crate::hexadecimal::bytes_of_text;
 use keep_config::json::{has_members, text_at};
@@ -33,7 +34,7 @@ pub(crate) fn opening_of_kind(
     } else if kind == b"restart".as_slice() {
         Ok(restart_of_value(value))
     } else {
-        Ok(None)
+        table_opening_of_kind(alloc, names, kind, value)
     }
 }
 
@@ -186,7 +187,7 @@ fn members_with(count: usize, digest: &Option<Digest>) -> usize
     }
 }
 
-fn locator_of_value(
+pub(crate) fn locator_of_value(
     alloc: Global,
     names: &BTreeMap<Bytes, TaskState>,
     value: &Value,

@@ -1,12 +1,13 @@
 // The lines of events and ends.
 ghost use Rattle.std.specs.Prelude.{◌≡◌, ◌++◌, ◌∷◌, OnOk};
 ghost use Rattle.std.specs.Fmt.{decimal};
-ghost use Rattle.keep_history.specs.Printed.{answer_words, bytes_field, digest_field, end_line, event_line, number_field, outcome_words};
+ghost use Rattle.keep_history.specs.Printed.{answer_words, bytes_field, digest_field, end_line, event_line, number_field, outcome_words, portable_field};
 
 use crate::hexadecimal::push_digits;
+use crate::tables::{push_hash, push_numbers, push_optional, push_quoted, push_table_answer};
 use itoa::Buffer;
 use keep_event::{DeviceAnswer, Outcome};
-use keep_spec::{Digest, NoMemory};
+use keep_spec::{Bytes, Digest, NoMemory, Portable};
 
 /// Writes the line of an event of a named task on a device behind `out`. On a refusal part of the line may stand there.
 #[tactic(auto, unfolding(keep_history::specs::Printed::event_line))]
@@ -96,17 +97,72 @@ fn push_outcome(out: &mut Vec<u8>, outcome: &Outcome) -> Result<(), NoMemory>
         Outcome::Expired { expiry } => push_number(out, b"Expired", *expiry as u64),
         Outcome::NotFound => push_word(out, b"NotFound"),
         Outcome::Corrupt { found } => push_digest(out, b"Corrupt", found),
+        Outcome::Saved {
+            uuid,
+            version,
+            portable,
+        } => push_saved(out, b"Saved ", uuid, *version, portable),
+        Outcome::Updated {
+            uuid,
+            version,
+            portable,
+        } => push_saved(out, b"Updated ", uuid, *version, portable),
+        Outcome::Row {
+            version,
+            want,
+            trash_at,
+            text,
+        } => push_row_end(out, *version, *want, *trash_at, text.as_slice()),
+        Outcome::TrashSet {
+            trash_at,
+            delete_at,
+        } => push_numbers(out, b"TrashSet", *trash_at, *delete_at),
+        Outcome::Restored => push_word(out, b"Restored"),
+        Outcome::Swept {
+            versions,
+            collections,
+        } => push_numbers(out, b"Swept", *versions, *collections),
+        Outcome::Refused { answer } => push_table_answer(out, answer),
     }
 }
 
-fn push_word(out: &mut Vec<u8>, word: &[u8]) -> Result<(), NoMemory>
+fn push_saved(
+    out: &mut Vec<u8>,
+    word: &[u8],
+    uuid: &Bytes,
+    version: u64,
+    portable: &Portable,
+) -> Result<(), NoMemory>
+    ensures { OnOk result (out.new.items ≡ out.old.items ++ (word.now ++ uuid.now ++ number_field version ++ portable_field portable.now)) }
+{
+    push_text(out, word, uuid.as_slice())?;
+    push_number(out, b"", version)?;
+    push_hash(out, b"", portable)
+}
+
+fn push_row_end(
+    out: &mut Vec<u8>,
+    version: u64,
+    want: u8,
+    trash_at: Option<u64>,
+    text: &[u8],
+) -> Result<(), NoMemory>
+    ensures { OnOk result (out.new.items ≡ out.old.items ++ outcome_words (Outcome.Row version want trash_at text.now)) }
+{
+    push_numbers(out, b"Row", version, u64::from(want))?;
+    push_optional(out, trash_at)?;
+    push_word(out, b" ")?;
+    push_quoted(out, text)
+}
+
+pub(crate) fn push_word(out: &mut Vec<u8>, word: &[u8]) -> Result<(), NoMemory>
     ensures { OnOk result (out.new.items ≡ out.old.items ++ word.now) }
 {
     out.extend_from_slice(word)?;
     Ok(())
 }
 
-fn push_text(out: &mut Vec<u8>, word: &[u8], text: &[u8]) -> Result<(), NoMemory>
+pub(crate) fn push_text(out: &mut Vec<u8>, word: &[u8], text: &[u8]) -> Result<(), NoMemory>
     ensures { OnOk result (out.new.items ≡ out.old.items ++ (word.now ++ text.now)) }
 {
     out.extend_from_slice(word)?;
@@ -123,7 +179,7 @@ fn push_decimal(out: &mut Vec<u8>, number: u64) -> Result<(), NoMemory>
 }
 
 // A word and a number.
-fn push_number(out: &mut Vec<u8>, word: &[u8], number: u64) -> Result<(), NoMemory>
+pub(crate) fn push_number(out: &mut Vec<u8>, word: &[u8], number: u64) -> Result<(), NoMemory>
     ensures { OnOk result (out.new.items ≡ out.old.items ++ (word.now ++ number_field number)) }
 {
     push_text(out, word, b" ")?;

@@ -14,16 +14,16 @@ returns-in_err-copied-clause-stopped g c =
     let v = c.args.stage.now.volume in
     let es = c.args.stage.now.names.entries in
     let command = C.Finish c.args.name c.args.reading in
-    on_err {P = StopsCommand c.args.config.now command v c.args.stage.now.events es v} _
-    (stops-before c.args.config.now v v c.args.stage.now.events es c.args.name c.args.reading command refl (omega arith))
+    on_err {P = StopsCommand c.args.config.now command v c.args.stage.now.events c.args.stage.now.table.state es v} _
+    (stops-before c.args.config.now v v c.args.stage.now.events c.args.stage.now.table.state es c.args.name c.args.reading command refl (omega arith))
 
 pub returns-in_err-state-clause-stopped : goal.returns-in_err-state-clause-stopped
 returns-in_err-state-clause-stopped g c =
     let v = c.args.stage.now.volume in
     let es = c.args.stage.now.names.entries in
     let command = C.Finish c.args.name c.args.reading in
-    on_err {P = StopsCommand c.args.config.now command v c.args.stage.now.events es v} _
-    (stops-before c.args.config.now v v c.args.stage.now.events es c.args.name c.args.reading command refl (omega arith))
+    on_err {P = StopsCommand c.args.config.now command v c.args.stage.now.events c.args.stage.now.table.state es v} _
+    (stops-before c.args.config.now v v c.args.stage.now.events c.args.stage.now.table.state es c.args.name c.args.reading command refl (omega arith))
 
 pub returns-in_default-clause-refused : goal.returns-in_default-clause-refused
 returns-in_default-clause-refused g c = λ _.

@@ -12,29 +12,29 @@ pub returns-in_err-task-clause-stopped : goal.returns-in_err-task-clause-stopped
 returns-in_err-task-clause-stopped g c =
     let v = c.args.stage.now.volume in
     let es = c.args.stage.now.names.entries in
-    on_err {P = StopsCommand c.args.config.now (C.Open c.args.name c.args.reading c.args.opening) v c.args.stage.now.events es v} _
-    (stops-before c.args.config.now v v c.args.stage.now.events es c.args.name c.args.reading (C.Open c.args.name c.args.reading c.args.opening) refl (omega arith))
+    on_err {P = StopsCommand c.args.config.now (C.Open c.args.name c.args.reading c.args.opening) v c.args.stage.now.events c.args.stage.now.table.state es v} _
+    (stops-before c.args.config.now v v c.args.stage.now.events c.args.stage.now.table.state es c.args.name c.args.reading (C.Open c.args.name c.args.reading c.args.opening) refl (omega arith))
 
 pub returns-in_err-push_end_line-in-Err-clause-stopped : goal.returns-in_err-push_end_line-in-Err-clause-stopped
 returns-in_err-push_end_line-in-Err-clause-stopped g c =
     let v = c.args.stage.now.volume in
     let es = c.args.stage.now.names.entries in
-    on_err {P = StopsCommand c.args.config.now (C.Open c.args.name c.args.reading c.args.opening) v c.args.stage.now.events es v} _
-    (stops-before c.args.config.now v v c.args.stage.now.events es c.args.name c.args.reading (C.Open c.args.name c.args.reading c.args.opening) refl (omega arith))
+    on_err {P = StopsCommand c.args.config.now (C.Open c.args.name c.args.reading c.args.opening) v c.args.stage.now.events c.args.stage.now.table.state es v} _
+    (stops-before c.args.config.now v v c.args.stage.now.events c.args.stage.now.table.state es c.args.name c.args.reading (C.Open c.args.name c.args.reading c.args.opening) refl (omega arith))
 
 pub returns-in_err-set_name-in-Err-clause-stopped : goal.returns-in_err-set_name-in-Err-clause-stopped
 returns-in_err-set_name-in-Err-clause-stopped g c =
     let v = c.args.stage.now.volume in
     let es = c.args.stage.now.names.entries in
-    on_err {P = StopsCommand c.args.config.now (C.Open c.args.name c.args.reading c.args.opening) v c.args.stage.now.events es v} _
-    (stops-before c.args.config.now v v c.args.stage.now.events es c.args.name c.args.reading (C.Open c.args.name c.args.reading c.args.opening) refl (omega arith))
+    on_err {P = StopsCommand c.args.config.now (C.Open c.args.name c.args.reading c.args.opening) v c.args.stage.now.events c.args.stage.now.table.state es v} _
+    (stops-before c.args.config.now v v c.args.stage.now.events c.args.stage.now.table.state es c.args.name c.args.reading (C.Open c.args.name c.args.reading c.args.opening) refl (omega arith))
 
 pub returns-in_err-set_name-clause-stopped : goal.returns-in_err-set_name-clause-stopped
 returns-in_err-set_name-clause-stopped g c =
     let v = c.args.stage.now.volume in
     let es = c.args.stage.now.names.entries in
-    on_err {P = StopsCommand c.args.config.now (C.Open c.args.name c.args.reading c.args.opening) v c.args.stage.now.events es v} _
-    (stops-before c.args.config.now v v c.args.stage.now.events es c.args.name c.args.reading (C.Open c.args.name c.args.reading c.args.opening) refl (omega arith))
+    on_err {P = StopsCommand c.args.config.now (C.Open c.args.name c.args.reading c.args.opening) v c.args.stage.now.events c.args.stage.now.table.state es v} _
+    (stops-before c.args.config.now v v c.args.stage.now.events c.args.stage.now.table.state es c.args.name c.args.reading (C.Open c.args.name c.args.reading c.args.opening) refl (omega arith))
 
 pub returns-in-Err-clause-done : goal.returns-in-Err-clause-done
 returns-in-Err-clause-done g c =
@@ -42,11 +42,11 @@ returns-in-Err-clause-done g c =
     let opens = sym c.in_ok-task.ensures ∙ c.in-Err.is in
     let named = c.in_ok-set_name-in-Err.ensures.new ∙ ap (λ v. with_name c.args.name v c.args.stage.now.names.entries) c.state_after.ensures in
     let printed = c.in_ok-push_end_line-in-Err.ensures ∙ ap (λ v. c.args.out.now.items ++ end_line v c.in-Err.outcome) c.as_slice.ensures in
-    does-open-ended c.args.config.now v v c.args.stage.now.events c.args.stage.now.names.entries c.args.name c.args.reading _ _ c.args.opening c.in-Err.outcome _ _ opens refl refl named printed
+    does-open-ended c.args.config.now v v c.args.stage.now.events c.args.stage.now.table.state c.args.stage.now.names.entries c.args.name c.args.reading _ _ c.args.opening c.in-Err.outcome _ _ opens refl refl named printed
 
 pub returns-clause-done : goal.returns-clause-done
 returns-clause-done g c =
     let v = c.args.stage.now.volume in
     let opens = sym c.in_ok-task.ensures ∙ c.in-Ok.is in
     let named = c.in_ok-set_name.ensures.new ∙ ap (λ n. with_name c.args.name (S.Open c.in-Ok.task n) c.args.stage.now.names.entries) c.len-actor.ensures.len in
-    does-open-task c.args.config.now v v c.args.stage.now.events c.args.stage.now.names.entries c.args.name c.args.reading _ _ c.args.opening c.in-Ok.task _ _ opens refl refl named refl
+    does-open-task c.args.config.now v v c.args.stage.now.events c.args.stage.now.table.state c.args.stage.now.names.entries c.args.name c.args.reading _ _ c.args.opening c.in-Ok.task _ _ opens refl refl named refl
