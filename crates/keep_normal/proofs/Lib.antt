@@ -1,0 +1,12 @@
+pub mod Fails
+pub mod Gathered
+pub mod Joins
+pub mod Parts
+pub mod Places
+pub mod Paths
+pub mod SoundFiles
+pub mod Sounds
+pub mod Starts
+pub mod Strips
+pub mod Table
+pub mod TokenText
