@@ -60,3 +60,66 @@ pub joined_more : {X Y : Type 0} (touches : X → X → Bool) (both : X → X �
 joined_more touches both j f ys i y inside at =
     sym (joined-push touches both j (map f (take i ys)) (f y))
     ∙ ap (joined touches both) (sym (ap (map f) (take_more ys i y inside ∙ ap (λ z. take i ys ++ z ∷ []) (sym at)) ∙ map-append f (take i ys) (y ∷ [])))
+
+-- Lists of which no two neighbours touch.
+
+abbrev pub IsApart : {X : Type 0} → (X → X → Bool) → List X → Type 0
+IsApart touches [] = Unit {0}
+IsApart touches (x ∷ []) = Unit {0}
+IsApart touches (x ∷ y ∷ ys) = (touches x y ≡ false) × IsApart touches (y ∷ ys)
+
+pub joined-apart : {X : Type 0} (touches : X → X → Bool) (both : X → X → X) (xs : List X) → IsApart touches xs → joined touches both xs ≡ xs
+joined-apart touches both [] h = refl
+joined-apart touches both (x ∷ []) h = refl
+joined-apart touches both (x ∷ y ∷ ys) h = ap (joined_before touches both x) (joined-apart touches both (y ∷ ys) h.1) ∙ ap (λ b. one_or_two both b x y ys) h.0
+
+before_apart : {X : Type 0} (touches : X → X → Bool) (both : X → X → X) → IsJoining touches both → (x : X) (ys : List X) → IsApart touches ys → IsApart touches (joined_before touches both x ys)
+before_apart touches both j x [] h = tt
+before_apart {X} touches both j x (y ∷ ys) h = by_touch (touches x y) refl ys h
+  where
+    by_touch : (b : Bool) → touches x y ≡ b → (zs : List X) → IsApart touches (y ∷ zs) → IsApart touches (one_or_two both b x y zs)
+    by_touch true t [] h = tt
+    by_touch true t (z ∷ zs) h = (j.last x y z t ∙ h.0, h.1)
+    by_touch false t zs h = (t, h)
+
+pub apart-joined : {X : Type 0} (touches : X → X → Bool) (both : X → X → X) → IsJoining touches both → (xs : List X) → IsApart touches (joined touches both xs)
+apart-joined touches both j [] = tt
+apart-joined touches both j (x ∷ xs) = before_apart touches both j x (joined touches both xs) (apart-joined touches both j xs)
+
+pub joined-joined : {X : Type 0} (touches : X → X → Bool) (both : X → X → X) → IsJoining touches both → (xs : List X) → joined touches both (joined touches both xs) ≡ joined touches both xs
+joined-joined touches both j xs = joined-apart touches both (joined touches both xs) (apart-joined touches both j xs)
+
+-- what f makes of neighbours touches as they do
+pub joined-map : {X : Type 0} (touches : X → X → Bool) (both : X → X → X) (f : X → X) → ((x y : X) → touches (f x) (f y) ≡ touches x y) → ((x y : X) → both (f x) (f y) ≡ f (both x y))
+    → (xs : List X) → joined touches both (map f xs) ≡ map f (joined touches both xs)
+joined-map touches both f t b [] = refl
+joined-map {X} touches both f t b (x ∷ xs) = ap (joined_before touches both (f x)) (joined-map touches both f t b xs) ∙ first (joined touches both xs)
+  where
+    by_touch : (y : X) (ys : List X) (c : Bool) → one_or_two both c (f x) (f y) (map f ys) ≡ map f (one_or_two both c x y ys)
+    by_touch y ys true = ap (λ z. z ∷ map f ys) (b x y)
+    by_touch y ys false = refl
+    first : (ys : List X) → joined_before touches both (f x) (map f ys) ≡ map f (joined_before touches both x ys)
+    first [] = refl
+    first (y ∷ ys) = ap (λ c. one_or_two both c (f x) (f y) (map f ys)) (t x y) ∙ by_touch y ys (touches x y)
+
+-- two that touch, before others
+pub before_two : {X : Type 0} (touches : X → X → Bool) (both : X → X → X) → IsJoining touches both → (x y : X) (ys : List X) → touches x y ≡ true
+    → joined_before touches both x (joined_before touches both y ys) ≡ joined_before touches both (both x y) ys
+before_two touches both j x y [] t = ap (λ b. one_or_two both b x y []) t
+before_two {X} touches both j x y (z ∷ zs) t = by_touch (touches y z) refl
+  where
+    by_touch : (b : Bool) → touches y z ≡ b → joined_before touches both x (one_or_two both (touches y z) y z zs) ≡ one_or_two both (touches (both x y) z) (both x y) z zs
+    by_touch true h =
+        ap (λ b. joined_before touches both x (one_or_two both b y z zs)) h
+        ∙ ap (λ b. one_or_two both b x (both y z) zs) (j.first x y z h ∙ t)
+        ∙ ap (λ w. w ∷ zs) (j.order x y z)
+        ∙ sym (ap (λ b. one_or_two both b (both x y) z zs) (j.last x y z t ∙ h))
+    by_touch false h =
+        ap (λ b. joined_before touches both x (one_or_two both b y z zs)) h
+        ∙ ap (λ b. one_or_two both b x y (z ∷ zs)) t
+        ∙ sym (ap (λ b. one_or_two both b (both x y) z zs) (j.last x y z t ∙ h))
+
+-- what stands before doesn't mind how the rest came
+pub joined_behind_same : {X : Type 0} (touches : X → X → Bool) (both : X → X → X) (xs ys zs : List X) → joined touches both ys ≡ joined touches both zs → joined touches both (xs ++ ys) ≡ joined touches both (xs ++ zs)
+joined_behind_same touches both [] ys zs same = same
+joined_behind_same touches both (x ∷ xs) ys zs same = ap (joined_before touches both x) (joined_behind_same touches both xs ys zs same)

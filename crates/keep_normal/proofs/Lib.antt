@@ -1,11 +1,14 @@
 pub mod Fails
 pub mod Gathered
 pub mod Joins
+pub mod Maps
+pub mod Named
 pub mod Parts
 pub mod Places
 pub mod Paths
 pub mod SoundFiles
 pub mod Sounds
+pub mod Splits
 pub mod Starts
 pub mod Strips
 pub mod Table

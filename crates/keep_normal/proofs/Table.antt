@@ -71,7 +71,7 @@ swapped true false x y z apart = refl
 swapped false true x y z apart = refl
 swapped false false x y z apart = refl
 
-at-same : (q k : List ℕ) → is_at (byte_order q) k ≡ true → q ≡ k
+pub at-same : (q k : List ℕ) → is_at (byte_order q) k ≡ true → q ≡ k
 at-same q k h = by_cases (byte_order q k) refl h
   where
     by_cases : (o : Ordering) → byte_order q k ≡ o → is_eq o ≡ true → q ≡ k
