@@ -1,3 +1,5 @@
+pub mod Again
+pub mod Expand
 pub mod Fails
 pub mod Gathered
 pub mod Joins

@@ -10,7 +10,7 @@ use Rattle.keep_spec.specs.Manifest.{total_size}
 use Rattle.keep_normal.specs.Normal.{start_at}
 
 -- the start among a block and others, by whether it is that block
-abbrev start_by : ℕ → Bool → Option ℕ → Option ℕ
+abbrev pub start_by : ℕ → Bool → Option ℕ → Option ℕ
 start_by n b o = cond b (Some 0) (option_map (λ k. n + k) o)
 
 least_by : (b : List ℕ) (bs : List (List ℕ)) (l : List ℕ) (n : ℕ) (e : Bool) (o : Option ℕ) → bytes_eq b l ≡ e → start_at bs l ≡ o → ((k : ℕ) → o ≡ Some k → k ≤ total_size bs) → start_at (b ∷ bs) l ≡ Some n → n ≤ total_size (b ∷ bs)
