@@ -89,7 +89,7 @@ joined-stripped ps =
     joined-map touch both_parts stripped_part touch-stripped (λ p q. refl) (joined_parts ps)
     ∙ ap (map stripped_part) (joined-joined touch both_parts part_joins ps)
 
-abbrev ranges_of : List (List ℕ × List (List Part)) → List FileParts
+abbrev pub ranges_of : List (List ℕ × List (List Part)) → List FileParts
 ranges_of gs = map stripped_file (map file_of gs)
 
 all_joined : (gs : List (List ℕ × List (List Part))) → AllByRecursion IsJoined (ranges_of gs)
@@ -100,8 +100,16 @@ paths_of : (gs : List (List ℕ × List (List Part))) → map (λ (f : FileParts
 paths_of [] = refl
 paths_of (g ∷ gs) = ap (λ ks. g.0 ∷ ks) (paths_of gs)
 
+file_paths : (gs : List (List ℕ × List (List Part))) → map (λ (f : FileParts). f.path) (map file_of gs) ≡ keys_of gs
+file_paths [] = refl
+file_paths (g ∷ gs) = ap (λ ks. g.0 ∷ ks) (file_paths gs)
+
+pub files-ascending : (m : Manifest) → IsStrictlySortedBy byte_order (map (λ (f : FileParts). f.path) (files m))
+unfolding files
+files-ascending m = subst (λ ks. IsStrictlySortedBy byte_order ks) (sym (file_paths (grouped (pieces m)))) (grouped-ascending (pieces m))
+
 -- a file's own name is a path, but for the mark of an empty directory
-segment_named : (total : ℕ) (g : Segment) → is_good_segment total g ≡ true → is_mark g ≡ false → is_path g.name ≡ true
+pub segment_named : (total : ℕ) (g : Segment) → is_good_segment total g ≡ true → is_mark g ≡ false → is_path g.name ≡ true
 segment_named total g good mark =
     let numbers = ltb g.position (10 ^ 19) && ltb g.size (10 ^ 19) in
     let segment = (and_parts numbers (is_segment total g) good).1 in
@@ -125,7 +133,7 @@ stream_named s good =
     list_all-flat_map names_its_files (piece_of s) s.segments
     ∙ list_all-weaker (is_good_segment (total_size s.locators)) (λ g. list_all names_its_files (piece_of s g)) (λ g h. piece_named s g (total_size s.locators) h) s.segments (good_stream_is s good).segments
 
-keys_named : (q : List ℕ → Bool) (gs : List (List ℕ × List (List Part))) → list_all is_filled gs ≡ true → list_all (each_at (λ k _. q k)) gs ≡ true → list_all (λ f. q f.path) (ranges_of gs) ≡ true
+pub keys_named : (q : List ℕ → Bool) (gs : List (List ℕ × List (List Part))) → list_all is_filled gs ≡ true → list_all (each_at (λ k _. q k)) gs ≡ true → list_all (λ f. q f.path) (ranges_of gs) ≡ true
 keys_named q [] filled each = refl
 keys_named q ((k, []) ∷ gs) filled each = absurd (false≢true (and_parts false (list_all is_filled gs) filled).0)
 keys_named q ((k, x ∷ xs) ∷ gs) filled each =
@@ -359,3 +367,4 @@ ranges-normal m good = ap (map stripped_file) (files_again (ranges m) (ranges_ti
 
 pub normal-normal : (m : Manifest) → IsGood m → normal (normal m) ≡ normal m
 normal-normal m good = ap normal_of (ranges-normal m good)
+

@@ -25,7 +25,7 @@ use Rattle.keep_normal.proofs.Starts.{start_by, start-push}
 abbrev pub is_known : List (List ℕ) → Part → Bool
 is_known bs p = is_some (start_at bs p.locator)
 
-some_is : {X : Type 0} (o : Option X) → is_some o ≡ true → (x : X) × (o ≡ Some x)
+pub some_is : {X : Type 0} (o : Option X) → is_some o ≡ true → (x : X) × (o ≡ Some x)
 some_is None h = absurd (false≢true h)
 some_is (Some x) h = (x, refl)
 

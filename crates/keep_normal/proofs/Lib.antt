@@ -2,6 +2,7 @@ pub mod Again
 pub mod Expand
 pub mod Fails
 pub mod Gathered
+pub mod Goods
 pub mod Joins
 pub mod Maps
 pub mod Named

@@ -24,7 +24,7 @@ no_slash_by x xs None e h = by_slash (eqb x 47) refl
     by_slash false s = (s, e)
 no_slash_by x xs (Some p) e h = absurd (none-some (x ∷ p.0, p.1) (sym h ∙ ap (cut_onto x xs) e))
 
-no_slash : (xs : List ℕ) → cut_last xs ≡ None → slice_split (λ b. eqb b 47) xs ≡ xs ∷ []
+pub no_slash : (xs : List ℕ) → cut_last xs ≡ None → slice_split (λ b. eqb b 47) xs ≡ xs ∷ []
 no_slash [] h = refl
 no_slash (x ∷ xs) h =
     let parts = no_slash_by x xs (cut_last xs) refl h in
@@ -55,9 +55,9 @@ last_component (x ∷ xs) behind none h =
     last_by x (slice_split (λ b. eqb b 47) (xs ++ 47 ∷ behind)) (is_component behind ≡ true) (last_component xs behind none) (eqb x 47) h
 
 -- where a path is cut
-record IsCut (path : List ℕ) (p : List ℕ × List ℕ) : Type 0 where
-  whole : path ≡ p.0 ++ 47 ∷ p.1
-  none : cut_last p.1 ≡ None
+pub record IsCut (path : List ℕ) (p : List ℕ × List ℕ) : Type 0 where
+  pub whole : path ≡ p.0 ++ 47 ∷ p.1
+  pub none : cut_last p.1 ≡ None
 
 cut_here : (x : ℕ) (xs : List ℕ) (p : List ℕ × List ℕ) (b : Bool) → eqb x 47 ≡ b → cut_last xs ≡ None → cond b (Some ([], xs)) None ≡ Some p → IsCut (x ∷ xs) p
 cut_here x xs p true s h e = subst (IsCut (x ∷ xs)) (same_Some ([], xs) p e) (record { whole = ap (λ c. c ∷ xs) (eqb-true x 47 s); none = h })
@@ -69,7 +69,7 @@ cut_by x xs p (Some q) h e more =
     let rest = more q h in
     subst (IsCut (x ∷ xs)) (same_Some (x ∷ q.0, q.1) p e) (record { whole = ap (λ t. x ∷ t) rest.whole; none = rest.none })
 
-cut_is : (path : List ℕ) (p : List ℕ × List ℕ) → cut_last path ≡ Some p → IsCut path p
+pub cut_is : (path : List ℕ) (p : List ℕ × List ℕ) → cut_last path ≡ Some p → IsCut path p
 cut_is [] p e = absurd (none-some p e)
 cut_is (x ∷ xs) p e = cut_by x xs p (cut_last xs) refl e (cut_is xs)
 

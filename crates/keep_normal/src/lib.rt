@@ -8,6 +8,7 @@ mod listing;
 mod groups;
 mod hash;
 mod joining;
+mod laws;
 mod normal;
 mod part;
 mod path;
@@ -18,6 +19,7 @@ mod stripping;
 mod tests;
 
 pub use fault::NormalError;
+pub use laws::normal_forms_keep_files;
 pub use listing::files;
 pub use hash::{portable_hash, stripped_text};
 pub use keep_manifest::{BadManifest, Manifest};

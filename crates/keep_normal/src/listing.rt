@@ -2,6 +2,7 @@
 ghost use Rattle.std.specs.Prelude.{◌≡◌, map, fold, IsTrue, IfOk, OnOk};
 ghost use Rattle.std.specs.BTreeMap.{IsOrdered};
 ghost use Rattle.std.specs.List.{list_all};
+ghost use Rattle.std.specs.List.Sorted.{IsStrictlySortedBy};
 ghost use Rattle.keep_spec.specs.Manifest.{IsGood};
 ghost use Rattle.keep_manifest.specs.Good.{is_good_manifest, is_good_stream};
 ghost use Rattle.keep_normal.specs.Grouped.{byte_order, put, grouped};
@@ -23,7 +24,8 @@ use std::collections::BTreeMap;
 /// included, of the first of them. Marks of empty directories are no files.
 pub fn files(alloc: Global, manifest: &Manifest) -> Result<Vec<FileParts>, NoMemory>
     requires { IsGood manifest.now }
-    ensures { IfOk result (λ files. files.items ≡ files_of manifest.now) }
+    ensures files { IfOk result (λ files. files.items ≡ files_of manifest.now) }
+    ensures ascending { IfOk result (λ files. IsStrictlySortedBy byte_order (map (λ f. f.path) files.items)) }
 {
     let pieces = pieces_of(alloc, manifest)?;
     Ok(files_from(alloc, pieces)?)

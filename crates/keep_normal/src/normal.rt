@@ -3,7 +3,7 @@ ghost use Rattle.std.specs.Prelude.{◌≡◌, map, IsTrue, IfOk};
 ghost use Rattle.std.specs.List.{list_all};
 ghost use Rattle.keep_spec.specs.Manifest.{IsGood};
 ghost use Rattle.keep_normal.specs.Answers.{Answers, Gathers};
-ghost use Rattle.keep_normal.specs.Files.{stripped_file, stripped_part};
+ghost use Rattle.keep_normal.specs.Files.{stripped_file, stripped_part, ranges};
 ghost use Rattle.keep_normal.specs.Grouped.{grouped};
 ghost use Rattle.keep_normal.specs.Normal.{normal, is_small, is_small_stream, line_of, by_directory};
 ghost use Rattle.keep_normal.specs.Sound.{are_sound};
@@ -25,7 +25,12 @@ use std::collections::BTreeMap;
 /// position or a size of it isn't below 10^19.
 pub fn normalize(alloc: Global, manifest: &Manifest) -> Result<Manifest, NormalError>
     requires { IsGood manifest.now }
-    ensures { Answers result (normal manifest.now) (is_small (normal manifest.now)) }
+    ensures answer { Answers result (normal manifest.now) (is_small (normal manifest.now)) }
+
+    // It can be written, has the same files, and its normal form is itself.
+    ensures good { IfOk result IsGood }
+    ensures files { IfOk result (λ n. ranges n ≡ ranges manifest.now) }
+    ensures again { IfOk result (λ n. normal n ≡ n) }
 {
     let files = files(alloc, manifest)?;
     let directories = by_directory(alloc, &files)?;

@@ -3,7 +3,7 @@ ghost use Rattle.std.specs.Prelude.{IfSome};
 ghost use Rattle.keep_spec.specs.Manifest.{IsGood};
 
 use crate::{NormalError, files, normalize, portable_hash};
-use keep_manifest::{Manifest, is_good, read, write};
+use keep_manifest::{Manifest, read, write};
 use keep_spec::Bytes;
 use std::alloc::Global;
 use std::test::Fail;
@@ -60,9 +60,6 @@ fn normal_text(alloc: Global, text: &[u8]) -> Result<Option<Bytes>, NormalError>
         return Ok(None);
     };
     let normal = normalize(alloc, &manifest)?;
-    if !is_good(&normal) {
-        return Ok(None);
-    }
     Ok(Some(write(alloc, &normal)?))
 }
 
