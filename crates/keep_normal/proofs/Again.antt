@@ -1,11 +1,11 @@
 -- A manifest and its normal form have the same files.
-use Rattle.std.proofs.Common.{◌≡◌, ℕ, ◌+◌, ◌-◌, ◌≤◌, Bool, true, false, not, ◌&&◌, ◌||◌, cond, eqb, ltb, ◌^◌, inl, inr, List, [], ◌∷◌, ◌++◌, length, map, refl, ap, sym, subst, ◌∙◌, arith, append-nil, append_assoc}
-use Rattle.std.specs.Prelude.{codes, fold}
+use Rattle.std.proofs.Common.{◌≡◌, ℕ, ◌+◌, ◌-◌, Bool, true, false, not, ◌&&◌, cond, eqb, ltb, ◌^◌, inl, inr, List, [], ◌∷◌, ◌++◌, length, map, refl, ap, sym, subst, ◌∙◌, arith, append-nil}
+use Rattle.std.specs.Prelude.{codes}
 use Rattle.std.specs.List.{list_all, flat_map, AllByRecursion}
 use Rattle.std.specs.List.Sorted.{IsStrictlySortedBy}
 use Rattle.std.specs.Map.{keys_of}
 use Rattle.std.specs.Str.{bytes_eq}
-use Rattle.std.proofs.lemmas.Bool.{and_parts, and_from, and_right, or_cases, not-true, leb-true, lt-ltb, false≢true, cases_Bool}
+use Rattle.std.proofs.lemmas.Bool.{and_parts, and_from, and_right, or_cases, not-true, leb-true, lt-ltb, false≢true}
 use Rattle.std.proofs.lemmas.List.Concat.{flat_map-append}
 use Rattle.std.proofs.lemmas.List.Folds.{list_all-map, flat_map-map}
 use lib.Pointwise.{bytes_decides}
@@ -23,20 +23,19 @@ use Rattle.keep_normal.specs.declared.part.FileParts.{FileParts}
 use Rattle.keep_normal.specs.declared.span.Span.{Span}
 use Rattle.keep_normal.specs.Files.{span_of, parts_in, is_mark, path_of, piece_of, stream_pieces, pieces, touch, both_parts, joined_parts, file_of, files, stripped_part, stripped_file, ranges}
 use Rattle.keep_normal.specs.Grouped.{byte_order, values_at, grouped}
-use Rattle.keep_normal.specs.Joined.{joined}
 use Rattle.keep_normal.specs.Normal.{path_parts, directory, file_name, blocks, spans, segment_of, or_empty, file_segments, or_empty_block, line_of, by_directory, normal_of, normal}
-use Rattle.keep_normal.specs.Sound.{is_sound, are_sound}
+use Rattle.keep_normal.specs.Sound.{are_sound}
 use Rattle.keep_normal.proofs.Expand.{is_known, segments_forward, file_again, blocks_known}
 use Rattle.keep_normal.proofs.Fails.{list_all-flat_map}
 use Rattle.keep_normal.proofs.Gathered.{grouped-ascending}
 use Rattle.keep_normal.proofs.Joins.{joined-map, joined-joined}
 use Rattle.keep_normal.proofs.Maps.{has_key, key-same, same_maps, selected, grouped-values, values_are, is_filled, grouped-filled, each_at, grouped-each, one_given}
 use Rattle.keep_normal.proofs.Named.{is_named_path, path-named}
-use Rattle.keep_normal.proofs.SoundFiles.{IsGoodStream, good_stream_is, ranges_sound}
+use Rattle.keep_normal.proofs.SoundFiles.{good_stream_is, ranges_sound}
 use Rattle.keep_normal.proofs.Sounds.{part_joins}
-use Rattle.keep_normal.proofs.Splits.{is_forward, parts_of}
+use Rattle.keep_normal.proofs.Splits.{is_forward}
 use Rattle.keep_normal.proofs.Strips.{stripped-again}
-use Rattle.keep_normal.proofs.Table.{IsAscending, at-same}
+use Rattle.keep_normal.proofs.Table.{at-same}
 
 -- Lists.
 

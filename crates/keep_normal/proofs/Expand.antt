@@ -1,5 +1,5 @@
 -- What the segments of a file in the normal form stand for.
-use Rattle.std.proofs.Common.{◌≡◌, ℕ, ◌+◌, ◌-◌, ◌≤◌, ◌<◌, max, min, Bool, true, false, cond, leb, List, [], ◌∷◌, ◌++◌, Option, Some, None, map, option_map, refl, ap, sym, subst, ◌∙◌, arith, zero-add, append-nil}
+use Rattle.std.proofs.Common.{◌≡◌, ℕ, ◌+◌, ◌-◌, max, min, Bool, true, false, cond, List, [], ◌∷◌, ◌++◌, Option, Some, None, map, refl, ap, sym, ◌∙◌, arith}
 use Rattle.std.specs.Prelude.{unwrap_or, is_some, fold}
 use Rattle.std.specs.List.{list_all, flat_map}
 use Rattle.std.specs.Str.{bytes_eq}
@@ -13,8 +13,7 @@ use Rattle.keep_normal.specs.declared.part.Part.{Part}
 use Rattle.keep_normal.specs.declared.part.FileParts.{FileParts}
 use Rattle.keep_normal.specs.declared.span.Span.{Span}
 use Rattle.keep_normal.specs.Files.{part_in, kept, parts_in, joined_parts}
-use Rattle.keep_normal.specs.Joined.{joined}
-use Rattle.keep_normal.specs.Normal.{start_at, with_block, locators_of, blocks, span_in, spans, meet, both_spans, or_empty, or_empty_block}
+use Rattle.keep_normal.specs.Normal.{start_at, with_block, locators_of, blocks, span_in, spans, or_empty, or_empty_block}
 use Rattle.keep_normal.specs.Sound.{is_sound, are_sound}
 use Rattle.keep_normal.proofs.Fails.{list_all-flat_map}
 use Rattle.keep_normal.proofs.Parts.{kept_some, part_before, parts_behind}

@@ -1,9 +1,9 @@
 -- A normal form whose numbers are small is good.
-use Rattle.std.proofs.Common.{◌≡◌, ℕ, ◌+◌, ◌-◌, ◌≤◌, ◌<◌, Bool, true, false, not, ◌&&◌, ◌||◌, cond, eqb, leb, ltb, List, [], ◌∷◌, ◌++◌, length, Option, Some, None, map, refl, ap, sym, subst, ◌∙◌, inl, inr, arith, append_assoc, length-append, zero-add}
+use Rattle.std.proofs.Common.{◌≡◌, ℕ, ◌+◌, ◌-◌, ◌≤◌, ◌<◌, Bool, true, false, ◌&&◌, cond, eqb, leb, ltb, List, [], ◌∷◌, ◌++◌, length, Option, Some, None, map, refl, ap, sym, ◌∙◌, arith, append_assoc, length-append}
 use Rattle.std.specs.Prelude.{codes, fold, is_some, unwrap_or}
 use Rattle.std.specs.List.{list_all, flat_map, slice_split, onto_first}
 use Rattle.std.specs.Str.{bytes_eq}
-use Rattle.std.proofs.lemmas.Bool.{and_parts, and_from, or_left, leb-true, le-leb, lt-ltb, false≢true, eqb-true}
+use Rattle.std.proofs.lemmas.Bool.{and_parts, and_from, or_left, leb-true, le-leb, lt-ltb, false≢true}
 use Rattle.std.proofs.lemmas.List.Folds.{list_all-append, list_all-map}
 use Rattle.std.proofs.lemmas.List.Sums.{sum_by-cons}
 use Rattle.std.proofs.lemmas.Option.{none-some, same_Some}
@@ -25,12 +25,12 @@ use Rattle.keep_normal.specs.Grouped.{grouped}
 use Rattle.keep_normal.specs.Normal.{cut_last, path_parts, directory, file_name, start_at, with_block, locators_of, blocks, span_in, spans, meet, both_spans, segment_of, or_empty, file_segments, or_empty_block, line_of, by_directory, normal_of, normal, is_small_segment, is_small_stream, is_small}
 use Rattle.keep_normal.specs.Joined.{joined_before, joined}
 use Rattle.keep_normal.specs.Sound.{is_sound, are_sound}
-use Rattle.keep_normal.proofs.Again.{keys_named, ranges_of, segment_named}
+use Rattle.keep_normal.proofs.Again.{keys_named, segment_named}
 use Rattle.keep_normal.proofs.Expand.{is_known, some_is, segments_forward, blocks_known}
 use Rattle.keep_normal.proofs.Fails.{list_all-flat_map}
 use Rattle.keep_normal.proofs.Joins.{one_or_two}
 use Rattle.keep_normal.proofs.Maps.{is_filled, grouped-filled, each_at, grouped-each}
-use Rattle.keep_normal.proofs.Named.{no_slash, cut_is}
+use Rattle.keep_normal.proofs.Named.{cut_is}
 use Rattle.keep_normal.proofs.Paths.{cut_last-at}
 use Rattle.keep_normal.proofs.SoundFiles.{good_stream_is, ranges_sound}
 use Rattle.keep_normal.proofs.Sounds.{sound_is}

@@ -1,5 +1,5 @@
 -- A path and its last `/`.
-use Rattle.std.proofs.Common.{◌≡◌, ℕ, ◌==◌, ◌+◌, ◌<◌, Bool, true, false, cond, List, [], ◌∷◌, ◌++◌, Option, Some, None, refl, ap, sym, ◌∙◌, take, drop, get_or, length, add-one}
+use Rattle.std.proofs.Common.{◌≡◌, ℕ, ◌==◌, ◌+◌, ◌<◌, false, cond, List, [], ◌∷◌, ◌++◌, Some, None, ap, sym, ◌∙◌, take, drop, get_or, length, add-one}
 use Rattle.std.proofs.Math.Seq.{drop-cons}
 use Rattle.std.proofs.lemmas.List.{take-append-drop}
 use Rattle.keep_normal.specs.Normal.{cut_onto, cut_last}

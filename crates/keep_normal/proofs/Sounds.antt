@@ -1,8 +1,7 @@
 -- Sound parts stay sound.
-use Rattle.std.proofs.Common.{◌≡◌, ℕ, ◌+◌, ◌<◌, ◌≤◌, ltb, leb, eqb, Bool, true, false, cond, ◌&&◌, List, [], ◌∷◌, ◌++◌, refl, ap, sym, subst, ◌∙◌, arith, ◌^◌, add_assoc}
-use Rattle.std.specs.List.{list_all}
+use Rattle.std.proofs.Common.{◌≡◌, ℕ, ◌+◌, ◌<◌, ◌≤◌, ltb, leb, eqb, Bool, true, false, cond, ◌&&◌, List, [], ◌∷◌, refl, ap, sym, ◌∙◌, arith, ◌^◌, add_assoc}
 use Rattle.std.specs.Str.{bytes_eq}
-use Rattle.std.proofs.lemmas.Bool.{and_parts, and_from, lt-ltb, le-leb, ltb-true, leb-true, eqb-true, eq-eqb}
+use Rattle.std.proofs.lemmas.Bool.{and_parts, and_from, lt-ltb, le-leb, ltb-true, leb-true, eqb-true}
 use lib.Pointwise.{bytes_decides}
 use Rattle.keep_spec.specs.Locator.{is_locator, size, stripped}
 use Rattle.keep_spec.proofs.LocatorText.{size-lt}
@@ -11,7 +10,7 @@ use Rattle.keep_normal.specs.Files.{touch, both_parts}
 use Rattle.keep_normal.specs.Normal.{meet, both_spans, span_in, start_at}
 use Rattle.keep_normal.specs.declared.span.Span.{Span}
 use Rattle.std.specs.Prelude.{unwrap_or}
-use Rattle.keep_normal.specs.Joined.{joined_before, joined, joined_behind}
+use Rattle.keep_normal.specs.Joined.{joined_behind}
 use Rattle.keep_normal.specs.Sound.{is_sound, are_sound}
 use Rattle.keep_normal.proofs.Joins.{IsJoining}
 use Rattle.keep_normal.proofs.Strips.{size_same}

@@ -1,12 +1,12 @@
 -- What a stripped locator keeps.
-use Rattle.std.proofs.Common.{◌≡◌, ℕ, suc, ◌+◌, ◌-◌, ◌≤◌, ◌<◌, min, Bool, true, List, [], length, take, drop, get_or, refl, ap, sym, subst, ◌∙◌, arith, length-drop}
+use Rattle.std.proofs.Common.{◌≡◌, ℕ, ◌+◌, ◌≤◌, min, true, List, [], length, take, drop, get_or, ap, sym, ◌∙◌, arith}
 use Rattle.std.specs.List.{list_all, prefix_len}
 use Rattle.std.specs.Char.{is_ascii_digit}
 use Rattle.std.proofs.lemmas.List.{take-take, drop-take, length-take, take_all, drop_all, get_or-take}
 use Rattle.std.proofs.lemmas.List.Folds.{length-prefix_len}
 use Rattle.keep_spec.specs.Digest.{is_digest}
 use Rattle.keep_spec.specs.Locator.{is_locator, is_number, is_hint, number, size_digits, stripped, hints, size, cut_before_plus}
-use Rattle.keep_spec.proofs.LocatorText.{LocatorParts, locator_parts, locator_from_parts}
+use Rattle.keep_spec.proofs.LocatorText.{locator_parts, locator_from_parts}
 use Rattle.keep_normal.proofs.TokenText.{prefix_len-take}
 
 -- how many digits stand behind the plus

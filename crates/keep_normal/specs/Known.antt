@@ -1,6 +1,6 @@
 -- What is remembered of the blocks of a line.
-use Rattle.std.specs.Prelude.{ℕ, ◌+◌, ◌*◌, ◌^◌, ◌≤◌, ◌≡◌, List, length}
-use Rattle.std.specs.BTreeMap.{IsOrdered, get}
+use Rattle.std.specs.Prelude.{ℕ, ◌*◌, ◌^◌, ◌≤◌, ◌≡◌, List, length}
+use Rattle.std.specs.BTreeMap.{get}
 use Rattle.keep_spec.specs.Manifest.{total_size}
 use Rattle.keep_normal.specs.declared.blocks.Blocks.{Blocks}
 use Rattle.keep_normal.specs.Grouped.{byte_order}

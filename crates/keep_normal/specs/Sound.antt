@@ -1,9 +1,8 @@
 -- What the parts of a good manifest's files have in common.
-use Rattle.std.specs.Prelude.{ℕ, ◌+◌, ◌&&◌, nat_lt, nat_le, Bool, List}
+use Rattle.std.specs.Prelude.{◌+◌, ◌&&◌, nat_lt, nat_le, Bool, List}
 use Rattle.std.specs.List.{list_all}
 use Rattle.keep_spec.specs.Locator.{is_locator, size}
 use Rattle.keep_normal.specs.declared.part.Part.{Part}
-use Rattle.keep_normal.specs.declared.part.FileParts.{FileParts}
 
 -- some bytes within a block
 abbrev pub is_sound : Part → Bool

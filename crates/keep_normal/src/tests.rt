@@ -2,9 +2,9 @@
 ghost use Rattle.std.specs.Prelude.{IfSome};
 ghost use Rattle.keep_spec.specs.Manifest.{IsGood};
 
-use crate::{NormalError, files, normalize, portable_hash};
+use crate::{NormalError, Part, files, normalize, portable_hash};
 use keep_manifest::{Manifest, read, write};
-use keep_spec::Bytes;
+use keep_spec::{Bytes, Items};
 use std::alloc::Global;
 use std::test::Fail;
 
@@ -112,4 +112,48 @@ fn marks_are_no_files(rt: HostRuntime) {
     assert_eq!(rt; count(rt.alloc(), marked), Some(0));
     let empty = b"./dir d41d8cd98f00b204e9800998ecf8427e+0 0:0:empty.txt\n";
     assert_eq!(rt; count(rt.alloc(), empty), Some(1));
+}
+
+// The parts of the first file of a text.
+fn first_parts(alloc: Global, text: &[u8]) -> Option<Items<Part>> {
+    let manifest = good(alloc, text)?;
+    let Ok(files) = files(alloc, &manifest) else {
+        return None;
+    };
+    let first = files.into_iter().next()?;
+    Some(first.parts)
+}
+
+#[test]
+fn parts_of_blocks(rt: HostRuntime) -> Result<(), Fail> {
+    let cases = [
+        // One block, listed twice with other hints: joined, with the hints of the first.
+        (
+            b". acbd18db4cc2f85cedef654fccc4a4d8+3+Kx acbd18db4cc2f85cedef654fccc4a4d8+3+Ky 0:1:a 4:2:a\n".as_slice(),
+            b"acbd18db4cc2f85cedef654fccc4a4d8+3+Kx".as_slice(),
+            1,
+            3,
+        ),
+        // Sizes that are written otherwise make two blocks.
+        (
+            b". acbd18db4cc2f85cedef654fccc4a4d8+3 acbd18db4cc2f85cedef654fccc4a4d8+03 0:1:a 4:2:a\n".as_slice(),
+            b"acbd18db4cc2f85cedef654fccc4a4d8+3".as_slice(),
+            2,
+            1,
+        ),
+        // A block of no bytes between two has no part.
+        (
+            b". acbd18db4cc2f85cedef654fccc4a4d8+3 d41d8cd98f00b204e9800998ecf8427e+0 37b51d194a7513e45b56f6524f2d51f2+3 1:4:a\n".as_slice(),
+            b"acbd18db4cc2f85cedef654fccc4a4d8+3".as_slice(),
+            2,
+            2,
+        ),
+    ];
+    for (text, locator, count, length) in cases {
+        let parts = first_parts(rt.alloc(), text).ok_or("refused")?;
+        let first = parts.as_slice().first().ok_or("no parts")?;
+        assert_eq!(rt; first.locator.as_slice(), locator);
+        assert_eq!(rt; (parts.len(), first.length), (count, length));
+    }
+    Ok(())
 }

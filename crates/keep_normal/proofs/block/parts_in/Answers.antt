@@ -1,4 +1,4 @@
-use Rattle.std.proofs.Common.{◌≡◌, ◌++◌, ◌+◌, [], ◌∙◌, sym, ap, take, drop, length, get_or, arith, append-nil}
+use Rattle.std.proofs.Common.{◌++◌, ◌+◌, [], ◌∙◌, sym, ap, take, drop, length, arith, append-nil}
 use Rattle.std.proofs.lemmas.List.{drop_all}
 use Rattle.keep_spec.specs.Locator.{is_locator, size}
 use Rattle.keep_spec.specs.Manifest.{total_size}

@@ -1,4 +1,4 @@
-use Rattle.std.proofs.Common.{true, false, [], ◌∷◌, ◌∙◌, sym, append_assoc, ap, ◌++◌, subst, ◌≡◌, List}
+use Rattle.std.proofs.Common.{true, false, [], ◌∷◌, ◌∙◌, sym, append_assoc, ap, ◌++◌}
 use Rattle.keep_normal.specs.Files.{touch, both_parts}
 use Rattle.keep_normal.specs.Sound.{are_sound}
 use Rattle.keep_normal.proofs.Joins.{behind_two}

@@ -1,4 +1,4 @@
-use Rattle.std.proofs.Common.{◌≡◌, ◌++◌, map}
+use Rattle.std.proofs.Common.{◌≡◌, map}
 use Rattle.keep_normal.specs.Files.{file_of}
 use Rattle.keep_normal.proofs.listing.files_from.Given as goal
 

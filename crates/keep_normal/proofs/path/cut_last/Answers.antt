@@ -1,4 +1,4 @@
-use Rattle.std.proofs.Common.{◌≡◌, ◌+◌, ◌-◌, ◌<◌, suc, None, ◌∷◌, ◌++◌, ◌∙◌, sym, ap, take, drop, length, arith, add-one}
+use Rattle.std.proofs.Common.{◌≡◌, ◌+◌, ◌-◌, ◌∙◌, ap, drop, length, arith}
 use Rattle.std.proofs.lemmas.List.{take_all, length-drop}
 use Rattle.keep_normal.specs.Normal.{cut_last}
 use Rattle.keep_normal.proofs.Paths.{cut_last-found}

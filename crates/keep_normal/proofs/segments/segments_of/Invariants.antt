@@ -1,4 +1,4 @@
-use Rattle.std.proofs.Common.{◌≡◌, ◌++◌, take, true}
+use Rattle.std.proofs.Common.{◌≡◌, take, true}
 use Rattle.std.specs.List.{list_all, flat_map}
 use Rattle.keep_normal.specs.Normal.{file_segments, is_small_segment}
 use Rattle.keep_normal.proofs.segments.segments_of.Given as goal

@@ -1,4 +1,4 @@
-use Rattle.std.proofs.Common.{ℕ, List, Bool, Option, cond, Some, ◌≡◌, ◌+◌, ◌*◌, ◌^◌, ◌∷◌, [], ◌++◌, ◌∙◌, sym, ap, arith, length, length-append}
+use Rattle.std.proofs.Common.{cond, Some, ◌≡◌, ◌∷◌, [], ◌++◌, ◌∙◌, sym, ap, arith, length, length-append}
 use Rattle.std.specs.BTreeMap.{get, is_at}
 use Rattle.std.specs.Str.{bytes_eq}
 use Rattle.std.proofs.lemmas.Map.Text.{is_eq-slice_cmp}
