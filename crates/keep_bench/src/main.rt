@@ -5,14 +5,15 @@ use anyhow::Result;
 use keep_config::Config;
 use keep_event::{Block, DeviceAnswer, DeviceRules};
 use keep_locator::Locator;
-use keep_manifest::{BadManifest, Manifest, read};
+use keep_manifest::{BadManifest, Manifest, read, write};
+use keep_normal::{NormalError, normalize};
 use keep_sign::sign_manifest;
-use keep_spec::Bytes;
+use keep_spec::{Bytes, NoMemory};
 use keep_store::MemoryStore;
 use keep_volume::Volume;
 use std::alloc::Global;
 use std::env;
-use std::io::Read;
+use std::io::{Read, Write, writer};
 
 // How many streams, locators and segments a manifest has.
 fn counts(manifest: &Manifest) -> (u64, u64, u64) {
@@ -122,6 +123,28 @@ fn put_blocks(rt: &HostRuntime, input: &[u8]) -> Result<()> {
     Ok(())
 }
 
+// The normal form of a manifest, written.
+fn normal(rt: &HostRuntime, input: &[u8]) -> Result<()> {
+    let Ok(manifest) = read(rt.alloc(), input) else {
+        println!(rt; "no manifest")?;
+        return Ok(());
+    };
+    match normalize(rt.alloc(), &manifest) {
+        Ok(normal) => print_text(rt, write(rt.alloc(), &normal))?,
+        Err(NormalError::TooLarge) => println!(rt; "too large")?,
+        Err(NormalError::NoMemory) => println!(rt; "no memory")?,
+    }
+    Ok(())
+}
+
+fn print_text(rt: &HostRuntime, text: std::result::Result<Bytes, NoMemory>) -> Result<()> {
+    match text {
+        Ok(text) => writer(rt).write_all(text.as_slice())?,
+        Err(_) => println!(rt; "no memory")?,
+    }
+    Ok(())
+}
+
 fn main(rt: HostRuntime) -> Result<()> {
     let mut input = Vec::new(rt.alloc());
     rt.reader().read_to_end(&mut input)?;
@@ -132,6 +155,7 @@ fn main(rt: HostRuntime) -> Result<()> {
             "sign" => sign(&rt, &input)?,
             "config" => read_configurations(&rt, &input)?,
             "volume" => put_blocks(&rt, &input)?,
+            "normal" => normal(&rt, &input)?,
             _ => println!(rt; "no task {task}")?,
         }
     }

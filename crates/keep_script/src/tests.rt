@@ -13,116 +13,88 @@ fn bytes(alloc: Global, text: &[u8]) -> Result<Bytes, AllocError> {
     Ok(Bytes::of(Vec::from_slice(alloc, text)?))
 }
 
-// The parts, a blank behind each.
-fn words(alloc: Global, parts: &[&[u8]]) -> Result<Vec<u8>, AllocError> {
-    let mut text = Vec::new(alloc);
-    for part in parts {
-        text.extend_from_slice(part)?;
-        text.extend_from_slice(b" ")?;
-    }
-    Ok(text)
+// A part, and a blank behind it.
+fn push_part(text: &mut Vec<u8>, part: &[u8]) -> Result<(), AllocError> {
+    text.extend_from_slice(part)?;
+    text.extend_from_slice(b" ")
 }
 
-fn shown_opening(alloc: Global, opening: &Opening) -> Result<Vec<u8>, AllocError> {
+fn push_kind(
+    text: &mut Vec<u8>,
+    kind: &[u8],
+    token: &Bytes,
+    server: u32,
+) -> Result<(), AllocError> {
+    push_part(text, kind)?;
+    push_part(text, token.as_slice())?;
+    push_part(text, &[b'0' + (server % 10) as u8])
+}
+
+fn push_opening(text: &mut Vec<u8>, opening: &Opening) -> Result<(), AllocError> {
     match opening {
         Opening::Put {
             token,
             server,
             bytes,
-            digest: Some(digest),
-        } => words(
-            alloc,
-            &[
-                b"put",
-                token.as_slice(),
-                server.to_string(alloc)?.as_bytes(),
-                bytes.as_slice(),
-                &digest.write(),
-            ],
-        ),
-        Opening::Put {
-            token,
-            server,
-            bytes,
-            digest: None,
-        } => words(
-            alloc,
-            &[
-                b"put",
-                token.as_slice(),
-                server.to_string(alloc)?.as_bytes(),
-                bytes.as_slice(),
-            ],
-        ),
+            digest,
+        } => {
+            push_kind(text, b"put", token, *server)?;
+            push_part(text, bytes.as_slice())?;
+            match digest {
+                Some(digest) => push_part(text, &digest.write()),
+                None => Ok(()),
+            }
+        }
         Opening::Get {
             token,
             server,
             locator,
-        } => words(
-            alloc,
-            &[
-                b"get",
-                token.as_slice(),
-                server.to_string(alloc)?.as_bytes(),
-                locator.as_slice(),
-            ],
-        ),
+        } => {
+            push_kind(text, b"get", token, *server)?;
+            push_part(text, locator.as_slice())
+        }
         Opening::Touch {
             token,
             server,
             locator,
-        } => words(
-            alloc,
-            &[
-                b"touch",
-                token.as_slice(),
-                server.to_string(alloc)?.as_bytes(),
-                locator.as_slice(),
-            ],
-        ),
+        } => {
+            push_kind(text, b"touch", token, *server)?;
+            push_part(text, locator.as_slice())
+        }
         Opening::Untrash {
             token,
             server,
             digest,
-        } => words(
-            alloc,
-            &[
-                b"untrash",
-                token.as_slice(),
-                server.to_string(alloc)?.as_bytes(),
-                &digest.write(),
-            ],
-        ),
-        Opening::Restart { device } => words(
-            alloc,
-            &[b"restart", device.to_string(alloc)?.as_bytes()],
-        ),
+        } => {
+            push_kind(text, b"untrash", token, *server)?;
+            push_part(text, &digest.write())
+        }
+        Opening::Restart { device } => {
+            push_part(text, b"restart")?;
+            push_part(text, &[b'0' + (device % 10) as u8])
+        }
     }
 }
 
 fn shown(alloc: Global, command: &Command) -> Result<Vec<u8>, AllocError> {
+    let mut text = Vec::new(alloc);
     match command {
         Command::Open {
             name,
             reading,
             opening,
-        } => words(
-            alloc,
-            &[
-                name.as_slice(),
-                reading.to_string(alloc)?.as_bytes(),
-                shown_opening(alloc, opening)?.as_slice(),
-            ],
-        ),
-        Command::Finish { name, reading } => words(
-            alloc,
-            &[
-                name.as_slice(),
-                reading.to_string(alloc)?.as_bytes(),
-                b"finish",
-            ],
-        ),
+        } => {
+            push_part(&mut text, name.as_slice())?;
+            push_part(&mut text, reading.to_string(alloc)?.as_bytes())?;
+            push_opening(&mut text, opening)?;
+        }
+        Command::Finish { name, reading } => {
+            push_part(&mut text, name.as_slice())?;
+            push_part(&mut text, reading.to_string(alloc)?.as_bytes())?;
+            push_part(&mut text, b"finish")?;
+        }
     }
+    Ok(text)
 }
 
 // A name that is open, one that ended with a locator, and one that ended otherwise.
@@ -145,35 +117,35 @@ fn lines_that_are_commands(rt: HostRuntime) -> Result<(), Fail> {
     let rows = [
         (
             r#"{"open":"a","at":5,"do":"put","token":"t","server":0,"bytes":"616263"}"#,
-            "a 5 put t 0 abc  ",
+            "a 5 put t 0 abc ",
         ),
         (
             r#"{"open":"a","at":0,"do":"put","token":"","server":0,"bytes":"","digest":"900150983cd24fb0d6963f7d28e17f72"}"#,
-            "a 0 put  0  900150983cd24fb0d6963f7d28e17f72  ",
+            "a 0 put  0  900150983cd24fb0d6963f7d28e17f72 ",
         ),
         (
             "\t{ \"do\" : \"get\", \"locator\":\"x+1\", \"server\":0, \"token\":\"t\", \"at\":3999999999999999999, \"open\":\"A-_9\" } \r",
-            "A-_9 3999999999999999999 get t 0 x+1  ",
+            "A-_9 3999999999999999999 get t 0 x+1 ",
         ),
         (
             r#"{"open":"x","open":"a","at":5,"do":"get","token":"t","server":0,"locator":{"locator":"kept"}}"#,
-            "a 5 get t 0 d41d8cd98f00b204e9800998ecf8427e+0  ",
+            "a 5 get t 0 d41d8cd98f00b204e9800998ecf8427e+0 ",
         ),
         (
             r#"{"open":"aaaaaaaabbbbbbbbccccccccddddddddeeeeeeeeffffffffgggggggghhhhhhhh","at":5,"do":"get","token":"t","server":0,"locator":""}"#,
-            "aaaaaaaabbbbbbbbccccccccddddddddeeeeeeeeffffffffgggggggghhhhhhhh 5 get t 0   ",
+            "aaaaaaaabbbbbbbbccccccccddddddddeeeeeeeeffffffffgggggggghhhhhhhh 5 get t 0  ",
         ),
         (
             r#"{"open":"a","at":5,"do":"touch","token":"t","server":0,"locator":{"locator":"kept"}}"#,
-            "a 5 touch t 0 d41d8cd98f00b204e9800998ecf8427e+0  ",
+            "a 5 touch t 0 d41d8cd98f00b204e9800998ecf8427e+0 ",
         ),
         (
             r#"{"open":"a","at":5,"do":"untrash","token":"t","server":0,"digest":"900150983cd24fb0d6963f7d28e17f72"}"#,
-            "a 5 untrash t 0 900150983cd24fb0d6963f7d28e17f72  ",
+            "a 5 untrash t 0 900150983cd24fb0d6963f7d28e17f72 ",
         ),
         (
             r#"{"open":"a","at":5,"do":"restart","device":0}"#,
-            "a 5 restart 0  ",
+            "a 5 restart 0 ",
         ),
         (r#"{"finish":"open","at":7}"#, "open 7 finish "),
     ];

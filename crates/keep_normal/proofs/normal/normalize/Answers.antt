@@ -1,0 +1,63 @@
+use Rattle.std.proofs.Common.{◌∙◌, ap, sym, subst, Err, map, List}
+use Rattle.keep_spec.specs.declared.manifest.Manifest.{Manifest}
+use Rattle.keep_spec.specs.declared.manifest.Stream.{Stream}
+use Rattle.std.specs.List.{list_all}
+use Rattle.std.proofs.lemmas.Result.{err_from_is_err_and}
+use Rattle.keep_manifest.proofs.WellFormed.{good_is}
+use Rattle.keep_normal.specs.Answers.{Answers}
+use Rattle.keep_normal.specs.Files.{stripped_file, ranges}
+use Rattle.keep_normal.specs.Grouped.{grouped}
+use Rattle.keep_normal.specs.Normal.{normal, normal_of, is_small, is_small_stream, line_of, by_directory}
+use Rattle.keep_normal.specs.Sound.{are_sound}
+use Rattle.keep_normal.proofs.Again.{ranges-normal, normal-normal}
+use Rattle.keep_normal.proofs.Fails.{fails_with}
+use Rattle.keep_normal.proofs.Gathered.{all_values}
+use Rattle.keep_normal.proofs.Goods.{normal-good}
+use Rattle.keep_spec.specs.Manifest.{IsGood}
+use Rattle.keep_normal.proofs.SoundFiles.{ranges_sound, directories_sound}
+use Rattle.keep_normal.proofs.normal.normalize.Goals as goal
+
+abbrev with_streams : List Stream → Manifest
+with_streams ss = record { streams = ss }
+
+pub lines_of-requires : goal.lines_of-requires
+lines_of-requires c =
+    let m = c.args.manifest.now in
+    let files = c.deref.ensures.value ∙ c.in_ok-files.ensures.files in
+    let groups = c.in_ok-directories.ensures ∙ ap (λ fs. grouped (by_directory (map stripped_file fs))) files in
+    ap (all_values (λ f. are_sound f.parts)) groups ∙ directories_sound (ranges m) (ranges_sound m (good_is m c.requires))
+
+pub returns-in_err-streams-clause-answer : goal.returns-in_err-streams-clause-answer
+unfolding normal_of
+returns-in_err-streams-clause-answer c =
+    let m = c.args.manifest.now in
+    let files = c.deref.ensures.value ∙ c.in_ok-files.ensures.files in
+    let groups = c.in_ok-directories.ensures ∙ ap (λ fs. grouped (by_directory (map stripped_file fs))) files in
+    let p = err_from_is_err_and c.from_residual-in_err-streams.result c.from_residual-in_err-streams.ensures.1 in
+    let P = λ (r : _). Answers r (normal m) (is_small (normal m)) in
+    subst P (sym (p.1 ∙ ap Err p.2)) (fails_with c.in_err-streams.field-0.0 _ (is_small (normal m)) c.in_err-streams.ensures
+    (λ h. sym (ap (λ gs. list_all is_small_stream (map line_of gs)) groups) ∙ h))
+
+pub returns-clause-answer : goal.returns-clause-answer
+unfolding normal_of
+returns-clause-answer c =
+    let m = c.args.manifest.now in
+    let files = c.deref.ensures.value ∙ c.in_ok-files.ensures.files in
+    let groups = c.in_ok-directories.ensures ∙ ap (λ fs. grouped (by_directory (map stripped_file fs))) files in
+    let streams = c.of.ensures ∙ c.in_ok-streams.ensures.0 ∙ ap (map line_of) groups in
+    (ap with_streams streams, sym (ap (λ gs. list_all is_small_stream (map line_of gs)) groups) ∙ c.in_ok-streams.ensures.1)
+
+pub returns-clause-files : goal.returns-clause-files
+returns-clause-files c =
+    let m = c.args.manifest.now in
+    ap ranges (returns-clause-answer c).0 ∙ ranges-normal m c.requires
+
+pub returns-clause-again : goal.returns-clause-again
+returns-clause-again c =
+    let m = c.args.manifest.now in
+    ap normal (returns-clause-answer c).0 ∙ normal-normal m c.requires ∙ sym (returns-clause-answer c).0
+
+pub returns-clause-good : goal.returns-clause-good
+returns-clause-good c =
+    let m = c.args.manifest.now in
+    subst IsGood (sym (returns-clause-answer c).0) (normal-good m c.requires (returns-clause-answer c).1)

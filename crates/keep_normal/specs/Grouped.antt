@@ -1,0 +1,23 @@
+-- Values that stand beside keys, put together by key: an ordered map from each key to its values in their order.
+use Rattle.std.specs.Prelude.{ℕ, List, [], ◌∷◌, ◌++◌, unwrap_or, fold}
+use Rattle.std.specs.Ordering.{nat_cmp}
+use Rattle.std.specs.declared.cmp.Ordering.{Ordering}
+use Rattle.std.specs.Cmp.Lexicographic.{slice_cmp}
+use Rattle.std.specs.BTreeMap.{insert_entry, is_at}
+use Rattle.std.specs.Map.{lookup}
+
+-- the order of bytes
+abbrev pub byte_order : List ℕ → List ℕ → Ordering
+byte_order = slice_cmp nat_cmp
+
+-- the values at a key, none where the map hasn't it
+abbrev pub values_at : {X : Type 0} → List (List ℕ × List X) → List ℕ → List X
+values_at m key = unwrap_or (lookup (is_at (byte_order key)) m) []
+
+-- the map with one value more, the last at its key
+unfoldable pub put : {X : Type 0} → List (List ℕ × List X) → List ℕ × X → List (List ℕ × List X)
+put m p = insert_entry byte_order m p.0 (values_at m p.0 ++ p.1 ∷ [])
+
+-- keys ascend, and the values of each keep their order
+unfoldable pub grouped : {X : Type 0} → List (List ℕ × X) → List (List ℕ × List X)
+grouped pairs = fold put [] pairs

@@ -1,0 +1,8 @@
+-- Where the blocks of a stream lie, one behind another.
+use Rattle.std.specs.Prelude.{ℕ, ◌+◌, List, [], ◌∷◌}
+use Rattle.keep_spec.specs.Locator.{size}
+use Rattle.keep_normal.specs.declared.block.Block.{Block}
+
+abbrev pub placed : ℕ → List (List ℕ) → List Block
+placed start [] = []
+placed start (locator ∷ locators) = record { start = start; end = start + size locator } ∷ placed (start + size locator) locators
