@@ -1,0 +1,4 @@
+pub mod Ascending
+pub mod Locators
+pub mod Saves
+pub mod Tokens
