@@ -24,46 +24,56 @@ use Rattle.keep_event.specs.declared.table.TableAnswer.{TableAnswer}
 use Rattle.keep_event.specs.declared.table.TableAnswer.TheVariants.{Unsigned, WrongHash, BadWant}
 use Rattle.keep_collections.specs.Verdicts.{IsGood, IsSigned, IsClaimed, is_saved}
 
--- ---- no refusal is Saved
+-- ---- what passes no refusal of a request isn't the answer to one
 
-abbrev NeverSaved : Option TableAnswer → Type 0
-NeverSaved None = ⊤
-NeverSaved (Some answer) = is_saved answer ≡ false
+abbrev Never : (TableAnswer → Bool) → Option TableAnswer → Type 0
+Never p None = ⊤
+Never p (Some answer) = p answer ≡ false
 
-never-or : (a b : Option TableAnswer) → NeverSaved a → NeverSaved b → NeverSaved (or_else a b)
-never-or None b p q = q
-never-or (Some answer) b p q = p
+-- a test that none of the refusals of a request passes
+pub record PassesNone (p : TableAnswer → Bool) : Type 0 where
+  pub manifest : (refusal : Refusal) → p (refused_at refusal) ≡ false
+  pub unsigned : (index : ℕ) (why : Unverified) → p (Unsigned index why) ≡ false
+  pub hash : (computed : Portable) → p (WrongHash computed) ≡ false
+  pub want : p BadWant ≡ false
 
-never-manifest : (o : Option Refusal) → NeverSaved (option_map refused_at o)
-never-manifest None = tt
-never-manifest (Some refusal) = refl
+never-or : (p : TableAnswer → Bool) (a b : Option TableAnswer) → Never p a → Never p b → Never p (or_else a b)
+never-or p None b m n = n
+never-or p (Some answer) b m n = m
 
-never-why : (index : ℕ) (o : Option Unverified) → NeverSaved (option_map (Unsigned index) o)
-never-why index None = tt
-never-why index (Some why) = refl
+never-manifest : (p : TableAnswer → Bool) (o : Option Refusal) → PassesNone p → Never p (option_map refused_at o)
+never-manifest p None n = tt
+never-manifest p (Some refusal) n = n.manifest refusal
 
-never-signature : (why : List ℕ → Option Unverified) (index : ℕ) (locators : List (List ℕ)) → NeverSaved (first_unsigned why index locators)
-never-signature why index [] = tt
-never-signature why index (l ∷ ls) = never-or (option_map (Unsigned index) (why l)) (first_unsigned why (index + 1) ls) (never-why index (why l)) (never-signature why (index + 1) ls)
+never-why : (p : TableAnswer → Bool) (index : ℕ) (o : Option Unverified) → PassesNone p → Never p (option_map (Unsigned index) o)
+never-why p index None n = tt
+never-why p index (Some why) n = n.unsigned index why
 
-never-unless : (b : Bool) (answer : TableAnswer) → is_saved answer ≡ false → NeverSaved (if b then None else Some answer)
-never-unless true answer e = tt
-never-unless false answer e = e
+never-signature : (p : TableAnswer → Bool) (why : List ℕ → Option Unverified) (index : ℕ) (locators : List (List ℕ)) → PassesNone p → Never p (first_unsigned why index locators)
+never-signature p why index [] n = tt
+never-signature p why index (l ∷ ls) n = never-or p (option_map (Unsigned index) (why l)) (first_unsigned why (index + 1) ls) (never-why p index (why l) n) (never-signature p why (index + 1) ls n)
 
-never-hash : (computed : Portable) (claimed : Option (List ℕ)) → NeverSaved (wrong_hash computed claimed)
-never-hash computed None = tt
-never-hash computed (Some claimed) = never-unless (bytes_eq claimed (portable_text computed)) (WrongHash computed) refl
+never-unless : (p : TableAnswer → Bool) (b : Bool) (answer : TableAnswer) → p answer ≡ false → Never p (if b then None else Some answer)
+never-unless p true answer e = tt
+never-unless p false answer e = e
 
-never-refused : (c : Configuration) (reading : ℕ) (request : SaveRequest) → NeverSaved (refusal_of_request c reading request)
-never-refused c reading request =
-    never-or (bad_manifest request.text) _ (never-manifest (bad request.text))
-    (never-or (bad_signature c reading request) _ (never-signature (unsigned_because c request.token reading) 0 (locators_of request.text))
-    (never-or (wrong_hash (portable_hash request.text) request.portable) (bad_want request.want) (never-hash (portable_hash request.text) request.portable)
-    (never-unless (nat_le 1 request.want && nat_le request.want 255) BadWant refl)))
+never-hash : (p : TableAnswer → Bool) (computed : Portable) (claimed : Option (List ℕ)) → PassesNone p → Never p (wrong_hash computed claimed)
+never-hash p computed None n = tt
+never-hash p computed (Some claimed) n = never-unless p (bytes_eq claimed (portable_text computed)) (WrongHash computed) (n.hash computed)
 
-never-at : (o : Option TableAnswer) (answer : TableAnswer) → NeverSaved o → o ≡ Some answer → is_saved answer ≡ false
-never-at None answer n e = absurd (cc)
-never-at (Some other) answer n e = let same : other ≡ answer = cc in ap is_saved (sym same) ∙ n
+never-refused : (p : TableAnswer → Bool) (c : Configuration) (reading : ℕ) (request : SaveRequest) → PassesNone p → Never p (refusal_of_request c reading request)
+never-refused p c reading request n =
+    never-or p (bad_manifest request.text) _ (never-manifest p (bad request.text) n)
+    (never-or p (bad_signature c reading request) _ (never-signature p (unsigned_because c request.token reading) 0 (locators_of request.text) n)
+    (never-or p (wrong_hash (portable_hash request.text) request.portable) (bad_want request.want) (never-hash p (portable_hash request.text) request.portable n)
+    (never-unless p (nat_le 1 request.want && nat_le request.want 255) BadWant n.want)))
+
+never-at : (p : TableAnswer → Bool) (o : Option TableAnswer) (answer : TableAnswer) → Never p o → o ≡ Some answer → p answer ≡ false
+never-at p None answer n e = absurd (cc)
+never-at p (Some other) answer n e = let same : other ≡ answer = cc in ap p (sym same) ∙ n
+
+pub refusal-never : (p : TableAnswer → Bool) (c : Configuration) (reading : ℕ) (request : SaveRequest) (answer : TableAnswer) → PassesNone p → refusal_of_request c reading request ≡ Some answer → p answer ≡ false
+refusal-never p c reading request answer n e = never-at p (refusal_of_request c reading request) answer (never-refused p c reading request n) e
 
 -- ---- where there is none
 
@@ -125,7 +135,7 @@ claimed-hash computed None h = refl
 claimed-hash computed (Some claimed) h = none-unless (bytes_eq claimed (portable_text computed)) (WrongHash computed) ((bytes_decides claimed (portable_text computed)).1 h)
 
 -- a good request meets no refusal
-none-refused : (c : Configuration) (reading : ℕ) (request : SaveRequest) → IsGood c reading request → refusal_of_request c reading request ≡ None
+pub none-refused : (c : Configuration) (reading : ℕ) (request : SaveRequest) → IsGood c reading request → refusal_of_request c reading request ≡ None
 none-refused c reading request g =
     none-or (bad_manifest request.text) _ (none-map refused_at (bad request.text) g.manifest)
     (none-or (bad_signature c reading request) _ (signed-all c request.token reading 0 (locators_of request.text) g.signed)
@@ -149,7 +159,7 @@ good-request c reading request owner known e =
 -- a refusal is no Saved, and its request isn't good
 pub refused-request : (c : Configuration) (reading : ℕ) (request : SaveRequest) (answer : TableAnswer) → refusal_of_request c reading request ≡ Some answer → IsTrue (is_saved answer) ↔ IsGood c reading request
 refused-request c reading request answer e =
-    let never = never-at (refusal_of_request c reading request) answer (never-refused c reading request) e in
+    let never = refusal-never is_saved c reading request answer (record { manifest = λ r. refl; unsigned = λ i w. refl; hash = λ h. refl; want = refl }) e in
     (λ saved. absurd (cc (never, saved)), λ g. (let none = none-refused c reading request g in absurd (cc (none, e))))
 
 pub unknown-request : (c : Configuration) (reading : ℕ) (request : SaveRequest) (answer : TableAnswer) → is_saved answer ≡ false → token_of c request.token ≡ None → IsTrue (is_saved answer) ↔ IsGood c reading request

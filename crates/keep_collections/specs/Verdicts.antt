@@ -7,7 +7,10 @@ use Rattle.keep_spec.specs.Portable.{portable_text}
 use Rattle.keep_spec.specs.Refusals.{bad}
 use Rattle.keep_spec.specs.Sign.{verdict}
 use Rattle.keep_spec.specs.declared.portable.Portable.{Portable}
+use Rattle.keep_spec.specs.declared.token.TokenId.{TokenId}
+use Rattle.keep_event.specs.Table.{State, collection_of, is_owner, is_in_trash, versions_held}
 use Rattle.keep_event.specs.Requests.{locators_of, portable_hash}
+use Rattle.keep_event.specs.declared.table.Collection.{Collection}
 use Rattle.keep_event.specs.declared.table.SaveRequest.{SaveRequest}
 use Rattle.keep_event.specs.declared.table.TableAnswer.TheVariants.{Saved}
 use Rattle.keep_event.specs.declared.table.NewRecord.{NewRecord}
@@ -53,3 +56,18 @@ pub record IsGood (c : Configuration) (reading : ℕ) (request : SaveRequest) : 
 abbrev pub is_saved : TableAnswer → Bool
 is_saved (Saved number version portable) = true
 is_saved other = false
+
+-- the collection is there, the token's or asked for by the system token, not in the trash, and has room for a version
+pub record IsUpdatable (c : Configuration) (reading collection : ℕ) (token : TokenId) (s : State) : Type 0 where
+  pub found : Collection
+  pub there : collection_of collection s ≡ Some found
+  pub owner : IsTrue (is_owner token found)
+  pub outside : is_in_trash reading found ≡ false
+  pub room : versions_held reading collection s < c.versions
+
+-- a good request for such a collection
+pub record IsGoodUpdate (c : Configuration) (reading collection : ℕ) (request : SaveRequest) (s : State) : Type 0 where
+  pub good : IsGood c reading request
+  pub token : TokenId
+  pub known : token_of c request.token ≡ Some token
+  pub updatable : IsUpdatable c reading collection token s

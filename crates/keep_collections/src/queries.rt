@@ -3,8 +3,8 @@ ghost use Rattle.std.specs.Prelude.{◌≡◌, ◌↔◌, ◌<◌, ◌*◌, ◌^
 ghost use Rattle.keep_event.specs.Table.{has_room};
 ghost use Rattle.keep_event.specs.Table as machine;
 ghost use Rattle.keep_event.specs.Requests as requests;
-ghost use Rattle.keep_table.specs.Contents.{IsLine};
-ghost use Rattle.keep_collections.specs.Verdicts.{IsAsked, IsGood, is_saved};
+ghost use Rattle.keep_table.specs.Contents.{IsLine, is_updated};
+ghost use Rattle.keep_collections.specs.Verdicts.{IsAsked, IsGood, IsGoodUpdate, is_saved};
 
 use crate::request::{Verdict, judged};
 use keep_config::Config;
@@ -64,7 +64,10 @@ pub fn update(
     requires room { IsTrue (has_room table.old.state) }
     requires rules { table.old.rules ≡ requests.rules_of config.now }
     requires reading { reading < 4 * 10 ^ 18 }
-    ensures { IsLine (requests.update_line config.now reading collection preserve request.now table.old.state) table.old table.new result }
+    ensures line { IsLine (requests.update_line config.now reading collection preserve request.now table.old.state) table.old table.new result }
+
+    // It is made exactly where the request is good for the collection, want of memory aside.
+    ensures updated { IfOk result (λ answer. IsTrue (is_updated answer) ↔ IsGoodUpdate config.now reading collection request.now table.old.state) }
 {
     let Some(token) = config.token(request.token.as_slice()) else {
         return Ok(TableAnswer::UnknownToken);
