@@ -1,5 +1,5 @@
 -- The script line of a text: a JSON object with exactly the members of its kind. The language is this project's own.
-use Rattle.std.specs.Prelude.{ℕ, ◌+◌, ◌==◌, ◌&&◌, ◌||◌, nat_lt, nat_le, List, [], ◌++◌, length, Bool, true, false, Option, None, Some, is_some, is_none, option_and_then, option_map, if◌then◌else◌, codes, Result, Ok, Err}
+use Rattle.std.specs.Prelude.{ℕ, ◌<◌, ⊤, ◌+◌, ◌==◌, ◌&&◌, ◌||◌, nat_lt, nat_le, List, [], ◌++◌, length, Bool, true, false, Option, None, Some, is_some, is_none, option_and_then, option_map, if◌then◌else◌, codes, Result, Ok, Err}
 use Rattle.std.specs.Char.{is_ascii_alphanumeric}
 use Rattle.std.specs.List.{list_all}
 use Rattle.std.specs.Str.{bytes_eq}
@@ -38,6 +38,15 @@ reading_at d = option_and_then (λ n. if nat_lt n 4000000000000000000 then Some 
 abbrev pub reading_of : Command → ℕ
 reading_of (C.Open name reading opening) = reading
 reading_of (C.Finish name reading) = reading
+
+-- the times of a trash are readings
+abbrev pub HasTimes : Opening → Type 0
+HasTimes (O.Trash token collection trash_at delete_at) = trash_at < 4000000000000000000
+HasTimes _ = ⊤
+
+abbrev pub HasCommandTimes : Command → Type 0
+HasCommandTimes (C.Open name reading opening) = HasTimes opening
+HasCommandTimes (C.Finish name reading) = ⊤
 
 -- BYTES AND REFERENCES
 abbrev pub lower_case : List ℕ → Result (List ℕ) FromHexError → Option (List ℕ)

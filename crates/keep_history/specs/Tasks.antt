@@ -1,19 +1,18 @@
 -- Tasks: how an opening ends at once or what task it makes, and what a task asks next or how it ends, a function of the task and of the answers so far. The order of the tests is this project's rule.
-use Rattle.std.specs.Prelude.{ℕ, ◌+◌, ◌/◌, ◌-◌, ◌^◌, ◌==◌, ◌||◌, ◌&&◌, nat_lt, nat_le, min, not, filter, take, drop, replicate, is_none, List, [], ◌∷◌, ◌++◌, length, Bool, true, false, Option, None, Some, Result, Ok, Err, if◌then◌else◌, codes, option_map, unwrap_or, slice_get}
+use Rattle.std.specs.Prelude.{ℕ, ◌+◌, ◌/◌, ◌-◌, ◌^◌, ◌==◌, ◌||◌, ◌&&◌, nat_lt, min, not, filter, take, drop, replicate, is_some, List, [], ◌∷◌, ◌++◌, length, Bool, true, false, Option, None, Some, Result, Ok, Err, if◌then◌else◌, codes, option_map, unwrap_or, slice_get}
 use Rattle.std.specs.Str.{bytes_eq}
-use Rattle.std.specs.List.{list_all}
 use Rattle.std.specs.Fmt.{decimal}
 use Rattle.hex.specs.Hex.{encode_lower}
 use Rattle.md5.specs.Md5.{md5}
 use Rattle.keep_spec.specs.Sign.{hex8, signature_of, verdict}
-use Rattle.keep_spec.specs.Locator.{is_locator, locator_front, is_empty_block, digest, stripped, number}
+use Rattle.keep_spec.specs.Locator.{is_locator, locator_front, is_empty_block, digest, stripped}
 use Rattle.keep_spec.specs.Config.{Configuration, token_of}
 use Rattle.keep_spec.specs.declared.config.Device.{Device}
 use Rattle.keep_spec.specs.declared.token.TokenId.{TokenId}
 use Rattle.keep_spec.specs.declared.unverified.Triple.{Triple}
 use Rattle.keep_spec.specs.declared.unverified.Unverified.{Unverified}
 use Rattle.keep_spec.specs.declared.unverified.Unverified.TheVariants as U
-use Rattle.keep_spec.specs.Refusals.{bad}
+use Rattle.keep_spec.specs.Manifest.{manifest_of, number_of}
 use Rattle.keep_spec.specs.SignedText.{signed, with_locators}
 use Rattle.keep_event.specs.declared.table.TableQuery.{TableQuery}
 use Rattle.keep_event.specs.declared.table.TableQuery.TheVariants as TQ
@@ -129,14 +128,13 @@ kind_of_collections = codes "-4zz18-"
 unfoldable pub collection_uuid : Configuration → ℕ → List ℕ
 collection_uuid c n = c.cluster ++ kind_of_collections ++ padded n
 
--- a UUID of this cluster's collections
-abbrev pub is_collection : Configuration → List ℕ → Bool
-is_collection c text =
-    (length text == 27) && bytes_eq (take 12 text) (c.cluster ++ kind_of_collections) && list_all (λ b. nat_le 48 b && nat_le b 57) (drop 12 text)
+-- a UUID of this cluster's collections, by its length and its first parts
+abbrev pub has_collection_form : Configuration → List ℕ → Bool
+has_collection_form c text = (length text == 27) && bytes_eq (take 12 text) (c.cluster ++ kind_of_collections)
 
--- the number of a collection; a text that is no UUID of the cluster's has the number 0, which no collection has
+-- the number of a collection, in 15 decimal digits; a text that is no UUID of the cluster's has the number 0, which no collection has
 unfoldable pub collection_number : Configuration → List ℕ → ℕ
-collection_number c text = if is_collection c text then number (drop 12 text) else 0
+collection_number c text = if has_collection_form c text then unwrap_or (number_of (drop 12 text)) 0 else 0
 
 abbrev pub asks_table : TableQuery → Result Task Outcome
 asks_table q = Ok (T.Table q)
@@ -291,7 +289,7 @@ token_of_query _ = []
 -- a row's text with each locator signed for the token; a text that isn't a manifest, which the table never gives, stays
 abbrev pub signed_text : Configuration → List ℕ → Option ℕ → List ℕ → List ℕ
 signed_text c token None text = text
-signed_text c token (Some expiry) text = if is_none (bad text) then with_locators (signed token expiry c.ttl c.secret) text else text
+signed_text c token (Some expiry) text = if is_some (manifest_of text) then with_locators (signed token expiry c.ttl c.secret) text else text
 
 -- how the table's answer ends a task
 unfoldable pub table_end : Configuration → TableQuery → TableAnswer → Outcome

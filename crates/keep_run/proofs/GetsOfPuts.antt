@@ -37,16 +37,19 @@ use Rattle.keep_event.specs.declared.task.Task.{Task}
 use Rattle.keep_event.specs.declared.task.Task.TheVariants as T
 use Rattle.keep_event.specs.declared.task.TaskState.{TaskState}
 use Rattle.keep_event.specs.declared.task.TaskState.TheVariants as S
-use Rattle.keep_history.specs.Effects.{Scene, Effect, Asking, Asked, Made, asked, fails_at, finished, reply_to, asked_at, rules_of, effect_of_line, effect_of_command, finish_state, open_effect, names_after, state_after}
+use Rattle.keep_history.specs.Effects.{Scene, Effect, Asking, Asked, Made, asked, fails_at, finished, reply_to, asked_at, rules_of, effect_of_line, effect_of_command, finish_state, finish_effect, task_effect, open_effect, names_after, state_after}
 use Rattle.keep_history.specs.Names.{Names, state_of_name, with_name}
 use Rattle.keep_history.specs.Reads.{bytes_put, Read, given, given_by, read_by, IsAmong, IsOfPut, AreOfPuts, AreOfPutsUnder, ReadsOfPieces, ReadsAreOfPuts}
 use Rattle.keep_history.specs.Run.{config_for, is_empty, at_start}
 use Rattle.keep_history.specs.Script.{command_of}
-use Rattle.keep_history.specs.Tasks.{Next, asks, ends, ends_or, next, opened, compares, writes, fetches, touches, untrashes, restarts, writable, with_token, put_opened, get_opened, touch_opened, untrash_opened, where_writable, permitted, permitted_block, by_verdict, with_digest, has_other_digest, empty_locator, compare_end, write_end, fetch_end, touch_end, is_fault, Found, found_also, Brought, brought_also}
+use Rattle.keep_history.specs.Tasks.{Next, asks, ends, ends_or, next, opened, compares, writes, fetches, touches, untrashes, restarts, writable, with_token, put_opened, get_opened, touch_opened, untrash_opened, where_writable, permitted, permitted_block, by_verdict, with_digest, has_other_digest, empty_locator, compare_end, write_end, fetch_end, touch_end, table_end, is_fault, Found, found_also, Brought, brought_also}
 use Rattle.keep_run.specs.Asked.{fetch_outcome}
 use Rattle.keep_run.specs.Runs.{BothTold}
 use Rattle.keep_run.proofs.Held.{HoldAll, BringsAll, all-found, step-all}
+use Rattle.keep_event.specs.Requests.{table_line}
+use Rattle.keep_run.proofs.NamesAll.{AllNames, named, looked-up}
 use Rattle.keep_run.proofs.Nexts.{single-asks, single-ends}
+use Rattle.keep_run.proofs.Openings.{IsMade, OkHas, opened-has}
 
 module _ (P : List ℕ → Type 0) where
   -- ---- tasks
@@ -107,6 +110,7 @@ module _ (P : List ℕ → Type 0) where
   next-brings c (T.Touch token id hash text) answers p = touches-bring c id token hash text false (writable c) answers
   next-brings c (T.Untrash hash) answers p = untrashes-bring hash _ (writable c) answers
   next-brings c (T.Restart device) answers p = restarts-bring device answers
+  next-brings c (T.Table q) answers p = tt
 
   asked-holds : (fails : Bool) (s : State) (r : Reply) → HoldAll P s.held → HoldAll P r.state.held → HoldAll P (asked fails s r).state.held
   asked-holds true s r h k = h
@@ -133,25 +137,7 @@ module _ (P : List ℕ → Type 0) where
   StateBrings _ = ⊤
 
   abbrev NamesBring : Names → Type 0
-  NamesBring names = AllByRecursion (λ n. StateBrings n.1) names
-
-  named-by : (o : Ordering) (name : List ℕ) (st : TaskState) (e : List ℕ × TaskState) (es rest : Names) → StateBrings st → StateBrings e.1 → NamesBring es → NamesBring rest →
-      NamesBring (match_ordering o ((name, st) ∷ e ∷ es) ((e.0, st) ∷ es) (e ∷ rest))
-  named-by Less name st e es rest p q h k = (p, (q, h))
-  named-by Equal name st e es rest p q h k = (p, h)
-  named-by Greater name st e es rest p q h k = (q, k)
-
-  named : (name : List ℕ) (st : TaskState) (names : Names) → StateBrings st → NamesBring names → NamesBring (with_name name st names)
-  named name st [] p h = (p, tt)
-  named name st (e ∷ es) p h = named-by (slice_cmp nat_cmp name e.0) name st e es (with_name name st es) p h.0 h.1 (named name st es p h.1)
-
-  looked-by : (b : Bool) (st : TaskState) (rest : Option TaskState) → StateBrings st → IfSome rest StateBrings → IfSome (cond b (Some st) rest) StateBrings
-  looked-by true st rest p h = p
-  looked-by false st rest p h = h
-
-  looked-up : (name : List ℕ) (names : Names) → NamesBring names → IfSome (state_of_name name names) StateBrings
-  looked-up name [] h = tt
-  looked-up name (e ∷ es) h = looked-by (is_at (slice_cmp nat_cmp name) e.0) e.1 (state_of_name name es) h.0 (looked-up name es h.1)
+  NamesBring names = AllNames StateBrings names
 
   after-brings : (o : Outcome) → StateBrings (state_after o)
   after-brings (O.Stored locator) = tt
@@ -170,10 +156,17 @@ module _ (P : List ℕ → Type 0) where
   after-brings (O.Expired expiry) = tt
   after-brings O.NotFound = tt
   after-brings (O.Corrupt found) = tt
+  after-brings (O.Saved uuid version portable) = tt
+  after-brings (O.Updated uuid version portable) = tt
+  after-brings (O.Row version want trash_at text) = tt
+  after-brings (O.TrashSet trash_at delete_at) = tt
+  after-brings O.Restored = tt
+  after-brings (O.Swept versions collections) = tt
+  after-brings (O.Refused answer) = tt
 
   names-after-bring : (name : List ℕ) (o : Option Outcome) (names : Names) → NamesBring names → NamesBring (names_after name o names)
   names-after-bring name None names h = h
-  names-after-bring name (Some o) names h = named name (state_after o) names (after-brings o) h
+  names-after-bring name (Some o) names h = named StateBrings name (state_after o) names (after-brings o) h
 
   -- ---- what a fetch gives
 
@@ -209,7 +202,9 @@ module _ (P : List ℕ → Type 0) where
   given-of c failed scene reading (Some (S.Open (T.Touch token id hash text) actor)) h = tt
   given-of c failed scene reading (Some (S.Open (T.Untrash hash) actor)) h = tt
   given-of c failed scene reading (Some (S.Open (T.Restart device) actor)) h = tt
+  given-of c failed scene reading (Some (S.Open (T.Table q) actor)) h = tt
   given-of c failed scene reading (Some (S.Located locator)) h = tt
+  given-of c failed scene reading (Some (S.Row text)) h = tt
   given-of c failed scene reading (Some S.Ended) h = tt
 
   read-of : (c : Configuration) (failed : List ℕ) (scene : Scene) (o : Option Command) → HoldAll P scene.state.held → IfSome (read_by c failed scene o) (λ r. (md5 r.bytes ≡ r.digest) × P r.bytes)
@@ -223,50 +218,18 @@ module _ (P : List ℕ → Type 0) where
   OpeningBrings (Open.Put token server bytes hash) = P bytes
   OpeningBrings _ = ⊤
 
-  abbrev OkBrings : Result Task Outcome → Type 0
-  OkBrings (Ok task) = TaskBrings task
-  OkBrings (Err outcome) = ⊤
-
-  after-one : (a : Bool) (w : Outcome) (t : Task) → TaskBrings t → OkBrings (if a then Err w else Ok t)
-  after-one true w t p = tt
-  after-one false w t p = p
-
-  after-four : (a b c d : Bool) (w x y z : Outcome) (t : Task) → TaskBrings t → OkBrings (if a then Err w else if b then Err x else if c then Err y else if d then Err z else Ok t)
-  after-four true b c d w x y z t p = tt
-  after-four false true c d w x y z t p = tt
-  after-four false false true d w x y z t p = tt
-  after-four false false false true w x y z t p = tt
-  after-four false false false false w x y z t p = p
-
-  where-allowed : (a b : Bool) (w x : Outcome) (t : Task) → TaskBrings t → OkBrings (if a then (if b then Err w else Ok t) else Err x)
-  where-allowed true b w x t p = after-one b w t p
-  where-allowed false b w x t p = tt
-
-  ok-token : (o : Option TokenId) (make : TokenId → Result Task Outcome) → ((id : TokenId) → OkBrings (make id)) → OkBrings (with_token o make)
-  ok-token None make h = tt
-  ok-token (Some id) make h = h id
-
-  ok-digest : (r : Result (List ℕ) Outcome) (make : List ℕ → Result Task Outcome) → ((hash : List ℕ) → OkBrings (make hash)) → OkBrings (with_digest r make)
-  ok-digest (Err outcome) make h = tt
-  ok-digest (Ok hash) make h = h hash
-
-  opened-brings : (c : Configuration) (opening : Opening) (reading : ℕ) → OpeningBrings opening → OkBrings (opened c opening reading)
-  unfolding opened
-  opened-brings c (Open.Put token server bytes hash) reading p =
-      ok-token (token_of c token) (λ id. put_opened c id token bytes hash)
-      (λ id. after-four (nat_lt 67108864 (length bytes)) (has_other_digest bytes hash) (length bytes == 0) (length (writable c) == 0)
-      O.TooLong (O.HashMismatch (md5 bytes)) (O.Stored empty_locator) O.NoRoom (T.Put token id bytes) p)
-  opened-brings c (Open.Get token server locator) reading p =
-      ok-token (token_of c token) (λ id. get_opened c id token locator reading)
-      (λ id. ok-digest (permitted c id token locator reading (O.Bytes [])) (λ hash. Ok (T.Get hash)) (λ hash. tt))
-  opened-brings c (Open.Touch token server locator) reading p =
-      ok-token (token_of c token) (λ id. touch_opened c id token locator reading)
-      (λ id. ok-digest (permitted c id token locator reading (O.Touched (stripped locator))) (λ hash. where_writable c (T.Touch token id hash (stripped locator)))
-      (λ hash. after-one (length (writable c) == 0) O.NotFound (T.Touch token id hash (stripped locator)) tt))
-  opened-brings c (Open.Untrash token server hash) reading p =
-      ok-token (token_of c token) (λ id. untrash_opened c id hash)
-      (λ id. where-allowed (id.number == 0) (length (writable c) == 0) O.NotFound O.Forbidden (T.Untrash hash) tt)
-  opened-brings c (Open.Restart device) reading p = tt
+  made-brings : (c : Configuration) (opening : Opening) → OpeningBrings opening → IsMade TaskBrings c opening
+  made-brings c (Open.Put token server bytes hash) p = λ id. p
+  made-brings c (Open.Get token server locator) p = λ hash. tt
+  made-brings c (Open.Touch token server locator) p = λ id hash. tt
+  made-brings c (Open.Untrash token server hash) p = tt
+  made-brings c (Open.Restart device) p = tt
+  made-brings c (Open.Save request) p = tt
+  made-brings c (Open.Update collection preserve request) p = tt
+  made-brings c (Open.Read token collection version) p = tt
+  made-brings c (Open.Trash token collection trash_at delete_at) p = tt
+  made-brings c (Open.Restore token collection) p = tt
+  made-brings c Open.Sweep p = tt
 
   -- ---- lines
 
@@ -278,19 +241,31 @@ module _ (P : List ℕ → Type 0) where
   abbrev EffectBrings : Option Effect → Type 0
   EffectBrings o = IfSome o (λ e. SceneBrings e.scene)
 
-  opened-scene : (scene : Scene) (name : List ℕ) (r : Result Task Outcome) → OkBrings r → SceneBrings scene → SceneBrings (open_effect scene name r).scene
-  opened-scene scene name (Ok task) p h = record { held = h.held; names = named name (S.Open task (length scene.names)) scene.names p h.names }
-  opened-scene scene name (Err outcome) p h = record { held = h.held; names = named name (state_after outcome) scene.names (after-brings outcome) h.names }
+  opened-scene : (scene : Scene) (name : List ℕ) (r : Result Task Outcome) → OkHas TaskBrings r → SceneBrings scene → SceneBrings (open_effect scene name r).scene
+  opened-scene scene name (Ok task) p h = record { held = h.held; names = named StateBrings name (S.Open task (length scene.names)) scene.names p h.names }
+  opened-scene scene name (Err outcome) p h = record { held = h.held; names = named StateBrings name (state_after outcome) scene.names (after-brings outcome) h.names }
 
-  finished-scene : (c : Configuration) (failed : List ℕ) (scene : Scene) (name : List ℕ) (reading : ℕ) (st : Option TaskState) → IfSome st StateBrings → SceneBrings scene → EffectBrings (finish_state c failed scene name reading st)
-  finished-scene c failed scene name reading None p h = tt
-  finished-scene c failed scene name reading (Some (S.Open task actor)) p h =
+  device-scene : (c : Configuration) (failed : List ℕ) (scene : Scene) (name : List ℕ) (reading : ℕ) (task : Task) (actor : ℕ) → TaskBrings task → SceneBrings scene → SceneBrings (finish_effect scene name (asked_at c failed scene reading task actor)).scene
+  device-scene c failed scene name reading task actor p h =
       let a : Asking = record { config = c; failed = failed; actor = actor; reading = reading; task = task } in
       record {
         held = finished-holds 128 a scene.count scene.state [] (next c task []) p h.held (next-brings c task [] p);
         names = names-after-bring name (asked_at c failed scene reading task actor).outcome scene.names h.names;
       }
+
+  task-scene : (c : Configuration) (failed : List ℕ) (scene : Scene) (name : List ℕ) (reading : ℕ) (task : Task) (actor : ℕ) → TaskBrings task → SceneBrings scene → SceneBrings (task_effect c failed scene name reading task actor).scene
+  task-scene c failed scene name reading (T.Put token id block) actor p h = device-scene c failed scene name reading (T.Put token id block) actor p h
+  task-scene c failed scene name reading (T.Get hash) actor p h = device-scene c failed scene name reading (T.Get hash) actor p h
+  task-scene c failed scene name reading (T.Touch token id hash text) actor p h = device-scene c failed scene name reading (T.Touch token id hash text) actor p h
+  task-scene c failed scene name reading (T.Untrash hash) actor p h = device-scene c failed scene name reading (T.Untrash hash) actor p h
+  task-scene c failed scene name reading (T.Restart device) actor p h = device-scene c failed scene name reading (T.Restart device) actor p h
+  task-scene c failed scene name reading (T.Table q) actor p h = record { held = h.held; names = named StateBrings name _ scene.names (after-brings (table_end c q (table_line c reading q scene.table).answer)) h.names }
+
+  finished-scene : (c : Configuration) (failed : List ℕ) (scene : Scene) (name : List ℕ) (reading : ℕ) (st : Option TaskState) → IfSome st StateBrings → SceneBrings scene → EffectBrings (finish_state c failed scene name reading st)
+  finished-scene c failed scene name reading None p h = tt
+  finished-scene c failed scene name reading (Some (S.Open task actor)) p h = task-scene c failed scene name reading task actor p h
   finished-scene c failed scene name reading (Some (S.Located locator)) p h = tt
+  finished-scene c failed scene name reading (Some (S.Row text)) p h = tt
   finished-scene c failed scene name reading (Some S.Ended) p h = tt
 
   abbrev CommandBrings : Command → Type 0
@@ -299,8 +274,8 @@ module _ (P : List ℕ → Type 0) where
 
   done-scene : (c : Configuration) (failed : List ℕ) (scene : Scene) (command : Command) → CommandBrings command → SceneBrings scene → EffectBrings (effect_of_command c failed scene command)
   unfolding effect_of_command
-  done-scene c failed scene (C.Open name reading opening) p h = opened-scene scene name (opened c opening reading) (opened-brings c opening reading p) h
-  done-scene c failed scene (C.Finish name reading) p h = finished-scene c failed scene name reading (state_of_name name scene.names) (looked-up name scene.names h.names) h
+  done-scene c failed scene (C.Open name reading opening) p h = opened-scene scene name (opened c opening reading) (opened-has TaskBrings c opening reading (made-brings c opening p)) h
+  done-scene c failed scene (C.Finish name reading) p h = finished-scene c failed scene name reading (state_of_name name scene.names) (looked-up StateBrings name scene.names h.names) h
 
   given-scene : (c : Configuration) (failed : List ℕ) (scene : Scene) (o : Option Command) → IfSome o CommandBrings → SceneBrings scene → EffectBrings (option_and_then (effect_of_command c failed scene) o)
   given-scene c failed scene None p h = tt
@@ -323,10 +298,12 @@ module _ (P Q : List ℕ → Type 0) (more : (bytes : List ℕ) → P bytes → 
   more-task (T.Touch token id hash text) h = tt
   more-task (T.Untrash hash) h = tt
   more-task (T.Restart device) h = tt
+  more-task (T.Table q) h = tt
 
   more-state : (st : TaskState) → StateBrings P st → StateBrings Q st
   more-state (S.Open task actor) h = more-task task h
   more-state (S.Located locator) h = tt
+  more-state (S.Row text) h = tt
   more-state S.Ended h = tt
 
   more-names : (names : Names) → NamesBring P names → NamesBring Q names
@@ -348,6 +325,12 @@ put-brings put (Some (C.Open name reading (Open.Get token server locator))) = tt
 put-brings put (Some (C.Open name reading (Open.Touch token server locator))) = tt
 put-brings put (Some (C.Open name reading (Open.Untrash token server hash))) = tt
 put-brings put (Some (C.Open name reading (Open.Restart device))) = tt
+put-brings put (Some (C.Open name reading (Open.Save request))) = tt
+put-brings put (Some (C.Open name reading (Open.Update collection preserve request))) = tt
+put-brings put (Some (C.Open name reading (Open.Read token collection version))) = tt
+put-brings put (Some (C.Open name reading (Open.Trash token collection trash_at delete_at))) = tt
+put-brings put (Some (C.Open name reading (Open.Restore token collection))) = tt
+put-brings put (Some (C.Open name reading Open.Sweep)) = tt
 put-brings put (Some (C.Finish name reading)) = tt
 
 of-put : (put : List (List ℕ)) (o : Option Read) → IfSome o (λ r. (md5 r.bytes ≡ r.digest) × IsAmong r.bytes put) → IfSome o (IsOfPut put)

@@ -1,10 +1,15 @@
+pub mod Askable
 pub mod Asks
 pub mod Calls
+pub mod Counters
 pub mod Held
 pub mod GetsOfPuts
 pub mod LineSteps
 pub mod LineWhole
+pub mod NamesAll
 pub mod Nexts
+pub mod Openings
 pub mod Replies
+pub mod Rows
 pub mod RunSteps
 pub mod StoreSteps

@@ -99,6 +99,7 @@ module _ (c : Configuration) where
   single-asks (T.Touch token id hash text) q e = let w = is-there (Q.Touch hash (Some id)) q e in rw (w.0, ← w.1) refl
   single-asks (T.Untrash hash) q e = let w = is-there (Q.Untrash hash) q e in rw (w.0, ← w.1) refl
   single-asks (T.Restart device) q e = ap (asks device) (same e)
+  single-asks (T.Table t) q e = absurd cc
 
   pub single-ends : (task : Task) (q : DeviceQuery) (a : DeviceAnswer) → single_query c task ≡ Some q → next c task (a ∷ []) ≡ ends (single_outcome c task a)
   unfolding next fetches touches untrashes restarts
@@ -107,6 +108,7 @@ module _ (c : Configuration) where
   single-ends (T.Touch token id hash text) q a e = rw ((is-there (Q.Touch hash (Some id)) q e).0) (touched-by c id token hash text (touch_end c token hash text a) (is_fault a))
   single-ends (T.Untrash hash) q a e = rw ((is-there (Q.Untrash hash) q e).0) refl
   single-ends (T.Restart device) q a e = refl
+  single-ends (T.Table t) q a e = absurd cc
 
   -- a task that wants a writable device and has none asks nothing
   pub single-none : (task : Task) → is_put task ≡ false → single_query c task ≡ None → next c task [] ≡ ends O.NotFound
@@ -116,3 +118,4 @@ module _ (c : Configuration) where
   single-none (T.Touch token id hash text) other e = rw (is-nowhere (Q.Touch hash (Some id)) e) refl
   single-none (T.Untrash hash) other e = rw (is-nowhere (Q.Untrash hash) e) refl
   single-none (T.Restart device) other e = absurd cc
+  single-none (T.Table t) other e = refl

@@ -1,3 +1,4 @@
+pub mod Askable
 pub mod Asked
 pub mod Commands
 pub mod Effects

@@ -120,6 +120,7 @@ fn single_outcome(
         } => touch_outcome(alloc, config, token, digest, stripped, &answer),
         Task::Untrash { digest: _ } => Ok(untrash_outcome(&answer)),
         Task::Restart { device: _ } => Ok(Outcome::Restarted),
+        Task::Table { .. } => Ok(Outcome::NotFound),
     }
 }
 
@@ -148,6 +149,7 @@ fn single_query(config: &Config, task: &Task) -> Option<DeviceQuery>
             DeviceQuery::Untrash { digest: *digest },
         ),
         Task::Restart { device: _ } => Some(DeviceQuery::Restart),
+        Task::Table { .. } => None,
     }
 }
 
@@ -298,5 +300,6 @@ pub(crate) fn finish<S: Store>(
         Task::Touch { .. } => finish_other(alloc, config, volume, reading, name, task, out),
         Task::Untrash { .. } => finish_other(alloc, config, volume, reading, name, task, out),
         Task::Restart { .. } => finish_other(alloc, config, volume, reading, name, task, out),
+        Task::Table { .. } => finish_other(alloc, config, volume, reading, name, task, out),
     }
 }

@@ -1,9 +1,10 @@
 // What an opening makes of itself: a task, or its end at once.
 ghost use Rattle.std.specs.Prelude.{◌≡◌, IfOk, length, [], ◌∷◌, if◌then◌else◌};
-ghost use Rattle.keep_history.specs.Tasks.{opened, put_opened, get_opened, touch_opened, untrash_opened, where_writable, permitted_block, by_verdict, has_other_digest, writable};
+ghost use Rattle.keep_history.specs.Tasks.{opened, put_opened, get_opened, touch_opened, untrash_opened, where_writable, permitted_block, asks_table, by_verdict, has_other_digest, writable};
 
+use crate::collections::collection_number;
 use keep_config::Config;
-use keep_event::{Block, Opening, Outcome, Task};
+use keep_event::{Block, Opening, Outcome, TableQuery, Task};
 use keep_locator::Locator;
 use keep_sign::verify;
 use keep_spec::{Bytes, Digest, NoMemory, TokenId, Triple, Unverified};
@@ -227,5 +228,56 @@ pub(crate) fn opened(
             None => Ok(Err(Outcome::UnknownToken)),
         },
         Opening::Restart { device } => Ok(Ok(Task::Restart { device })),
+        Opening::Save { request } => asks_table(TableQuery::Save { request }),
+        Opening::Update {
+            collection,
+            preserve,
+            request,
+        } => {
+            let collection = collection_number(alloc, config, collection.as_slice())?;
+            asks_table(TableQuery::Update {
+                collection,
+                preserve,
+                request,
+            })
+        }
+        Opening::Read {
+            token,
+            collection,
+            version,
+        } => {
+            let collection = collection_number(alloc, config, collection.as_slice())?;
+            asks_table(TableQuery::Read {
+                token,
+                collection,
+                version,
+            })
+        }
+        Opening::Trash {
+            token,
+            collection,
+            trash_at,
+            delete_at,
+        } => {
+            let collection = collection_number(alloc, config, collection.as_slice())?;
+            asks_table(TableQuery::SetTrash {
+                token,
+                collection,
+                trash_at,
+                delete_at,
+            })
+        }
+        Opening::Restore { token, collection } => {
+            let collection = collection_number(alloc, config, collection.as_slice())?;
+            asks_table(TableQuery::Restore { token, collection })
+        }
+        Opening::Sweep => asks_table(TableQuery::Sweep),
     }
+}
+
+// A task of one query to the table.
+fn asks_table(query: TableQuery) -> Result<Result<Task, Outcome>, NoMemory>
+    ensures { IfOk result (λ r. r ≡ asks_table query) }
+{
+    Ok(Ok(Task::Table { query }))
 }

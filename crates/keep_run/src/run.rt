@@ -6,6 +6,7 @@ ghost use Rattle.keep_volume.specs.Calls.{state_of};
 ghost use Rattle.keep_event.specs.Table as tables;
 ghost use Rattle.keep_event.specs.Requests.{rules_of as table_rules_of};
 ghost use Rattle.keep_history.specs.Effects.{rules_of};
+ghost use Rattle.keep_run.specs.Askable.{AreAskable};
 ghost use Rattle.keep_run.specs.Commands.{AreFew, RisesByOne};
 ghost use Rattle.keep_run.specs.Asked.{scene_of};
 ghost use Rattle.keep_run.specs.Runs.{IsLineDone, BothTold, AllTold, Ended, status_of_line, IsOfLine};
@@ -33,6 +34,8 @@ fn run_line<W: Sink, S: Store>(
     requires few { length stage.old.names.entries < 2 ^ 32 }
     requires table_rules { stage.old.table.rules ≡ table_rules_of config.now }
     requires table_few { AreFew (2 ^ 40) stage.old.table.state }
+    requires askable { AreAskable stage.old.names.entries }
+    ensures askable { IfOk result (λ _. AreAskable stage.new.names.entries) }
     ensures told { BothTold (scene_of (state_of stage.old.volume) stage.old.events stage.old.table.state stage.old.names.entries) (W.taken sink.old) (λ scene t.
         IsLineDone config.now line.now.text line.now.number scene (scene_of (state_of stage.new.volume) stage.new.events stage.new.table.state stage.new.names.entries) (state_of stage.new.volume)
         stage.old.volume.faults stage.new.volume.faults t (W.taken sink.new) result) }

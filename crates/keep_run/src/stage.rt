@@ -3,7 +3,8 @@ ghost use Rattle.std.specs.Prelude.{◌≡◌, ◌≤◌, ◌<◌, ◌+◌, ◌^
 ghost use Rattle.keep_event.specs.Requests.{rules_of as table_rules_of};
 ghost use Rattle.keep_history.specs.Effects.{rules_of, state_after};
 ghost use Rattle.keep_history.specs.Names.{state_of_name, with_name};
-ghost use Rattle.keep_history.specs.Script.{reading_of};
+ghost use Rattle.keep_history.specs.Script.{reading_of, HasTimes, HasCommandTimes};
+ghost use Rattle.keep_run.specs.Askable.{AreAskable};
 ghost use Rattle.keep_run.specs.Commands.{AreFew, DoesCommand, RefusesCommand, RisesByOne, StopsCommand, open_task_of};
 
 use crate::asking::Finished;
@@ -82,6 +83,9 @@ fn open_task<S: Store>(
 ) -> Result<(), NoMemory>
     requires one { length config.now.devices ≡ 1 }
     requires few { length stage.old.names.entries < 2 ^ 32 }
+    requires times { HasTimes opening }
+    requires askable { AreAskable stage.old.names.entries }
+    ensures askable { IfOk result (λ _. AreAskable stage.new.names.entries) }
     ensures done { OnOk result (DoesCommand config.now (Command.Open name reading opening) stage.old.volume stage.old.events stage.old.table.state stage.old.names.entries stage.new.volume stage.new.events stage.new.table.state stage.new.names.entries out.old.items out.new.items) }
     ensures stopped { OnErr result (StopsCommand config.now (Command.Open name reading opening) stage.old.volume stage.old.events stage.old.table.state stage.old.names.entries stage.new.volume) }
     ensures volume { stage.new.volume ≡ stage.old.volume }
@@ -117,6 +121,8 @@ fn finish_task<S: Store>(
     requires reading { reading < 4000000000000000000 }
     requires table_rules { stage.old.table.rules ≡ table_rules_of config.now }
     requires table_few { AreFew (2 ^ 40) stage.old.table.state }
+    requires askable { AreAskable stage.old.names.entries }
+    ensures askable { IfOk result (λ _. AreAskable stage.new.names.entries) }
     ensures done { result ≡ Ok true → DoesCommand config.now (Command.Finish name reading) stage.old.volume stage.old.events stage.old.table.state stage.old.names.entries stage.new.volume stage.new.events stage.new.table.state stage.new.names.entries out.old.items out.new.items }
     ensures refused { result ≡ Ok false → RefusesCommand config.now (Command.Finish name reading) stage.old.volume stage.old.events stage.old.table.state stage.old.names.entries stage.new.volume }
     ensures stopped { OnErr result (StopsCommand config.now (Command.Finish name reading) stage.old.volume stage.old.events stage.old.table.state stage.old.names.entries stage.new.volume) }
@@ -162,6 +168,9 @@ pub(crate) fn do_command<S: Store>(
     requires reading { reading_of command < 4000000000000000000 }
     requires table_rules { stage.old.table.rules ≡ table_rules_of config.now }
     requires table_few { AreFew (2 ^ 40) stage.old.table.state }
+    requires times { HasCommandTimes command }
+    requires askable { AreAskable stage.old.names.entries }
+    ensures askable { IfOk result (λ _. AreAskable stage.new.names.entries) }
     ensures done { result ≡ Ok true → DoesCommand config.now command stage.old.volume stage.old.events stage.old.table.state stage.old.names.entries stage.new.volume stage.new.events stage.new.table.state stage.new.names.entries out.old.items out.new.items }
     ensures refused { result ≡ Ok false → RefusesCommand config.now command stage.old.volume stage.old.events stage.old.table.state stage.old.names.entries stage.new.volume }
     ensures stopped { OnErr result (StopsCommand config.now command stage.old.volume stage.old.events stage.old.table.state stage.old.names.entries stage.new.volume) }

@@ -1,8 +1,8 @@
 // What a line opens a task of collections with.
-ghost use Rattle.std.specs.Prelude.{◌≡◌, ◌≤◌, ◌<◌, ◌+◌, ◌^◌, IfOk, Option, None, Some, option_map, option_copied};
+ghost use Rattle.std.specs.Prelude.{◌≡◌, ◌≤◌, ◌<◌, ◌+◌, ◌^◌, IfOk, IfSome, Option, None, Some, option_map, option_copied};
 ghost use Rattle.serde_json.specs.View.{view, items_view};
 ghost use Rattle.keep_history.specs.Names.{state_of_name};
-ghost use Rattle.keep_history.specs.Script.{ended_text, joined_parts, manifest_of_data, members_if, number_of_data, part_of_data, read_of_data, request_of_data, restore_of_data, save_of_data, sweep_of_data, table_opening_of_kind, text_of_data, text_of_reference, time_at, trash_of_data, update_of_data, want_at};
+ghost use Rattle.keep_history.specs.Script.{ended_text, joined_parts, manifest_of_data, members_if, number_of_data, part_of_data, read_of_data, request_of_data, restore_of_data, save_of_data, sweep_of_data, table_opening_of_kind, text_of_data, text_of_reference, time_at, trash_of_data, update_of_data, want_at, HasTimes};
 
 use crate::fields::copied;
 use crate::opening::locator_of_value;
@@ -25,7 +25,8 @@ pub(crate) fn table_opening_of_kind(
     kind: &[u8],
     value: &Value,
 ) -> Result<Option<Opening>, NoMemory>
-    ensures { IfOk result (λ o. o ≡ table_opening_of_kind names.now.entries kind.now (view value.now)) }
+    ensures opening { IfOk result (λ o. o ≡ table_opening_of_kind names.now.entries kind.now (view value.now)) }
+    ensures times { IfOk result (λ o. IfSome o HasTimes) }
 {
     if kind == b"save".as_slice() {
         save_of_value(alloc, names, value)
@@ -49,7 +50,8 @@ fn save_of_value(
     names: &BTreeMap<Bytes, TaskState>,
     value: &Value,
 ) -> Result<Option<Opening>, NoMemory>
-    ensures { IfOk result (λ o. o ≡ save_of_data names.now.entries (view value.now)) }
+    ensures opening { IfOk result (λ o. o ≡ save_of_data names.now.entries (view value.now)) }
+    ensures times { IfOk result (λ o. IfSome o HasTimes) }
 {
     if !has_members(value, members_if(6, value.get("portable").is_some())) {
         return Ok(None);
@@ -65,7 +67,8 @@ fn update_of_value(
     names: &BTreeMap<Bytes, TaskState>,
     value: &Value,
 ) -> Result<Option<Opening>, NoMemory>
-    ensures { IfOk result (λ o. o ≡ update_of_data names.now.entries (view value.now)) }
+    ensures opening { IfOk result (λ o. o ≡ update_of_data names.now.entries (view value.now)) }
+    ensures times { IfOk result (λ o. IfSome o HasTimes) }
 {
     let claimed = members_if(7, value.get("portable").is_some());
     if !has_members(value, members_if(claimed, value.get("preserve").is_some())) {
@@ -88,7 +91,8 @@ fn update_of_value(
 }
 
 fn read_of_value(alloc: Global, value: &Value) -> Result<Option<Opening>, NoMemory>
-    ensures { IfOk result (λ o. o ≡ read_of_data (view value.now)) }
+    ensures opening { IfOk result (λ o. o ≡ read_of_data (view value.now)) }
+    ensures times { IfOk result (λ o. IfSome o HasTimes) }
 {
     if !has_members(value, members_if(5, value.get("version").is_some())) {
         return Ok(None);
@@ -110,7 +114,8 @@ fn read_of_value(alloc: Global, value: &Value) -> Result<Option<Opening>, NoMemo
 }
 
 fn trash_of_value(alloc: Global, value: &Value) -> Result<Option<Opening>, NoMemory>
-    ensures { IfOk result (λ o. o ≡ trash_of_data (view value.now)) }
+    ensures opening { IfOk result (λ o. o ≡ trash_of_data (view value.now)) }
+    ensures times { IfOk result (λ o. IfSome o HasTimes) }
 {
     if !has_members(value, 7) {
         return Ok(None);
@@ -136,7 +141,8 @@ fn trash_of_value(alloc: Global, value: &Value) -> Result<Option<Opening>, NoMem
 }
 
 fn restore_of_value(alloc: Global, value: &Value) -> Result<Option<Opening>, NoMemory>
-    ensures { IfOk result (λ o. o ≡ restore_of_data (view value.now)) }
+    ensures opening { IfOk result (λ o. o ≡ restore_of_data (view value.now)) }
+    ensures times { IfOk result (λ o. IfSome o HasTimes) }
 {
     if !has_members(value, 5) {
         return Ok(None);
@@ -154,7 +160,8 @@ fn restore_of_value(alloc: Global, value: &Value) -> Result<Option<Opening>, NoM
 }
 
 fn sweep_of_value(value: &Value) -> Option<Opening>
-    ensures { result ≡ sweep_of_data (view value.now) }
+    ensures opening { result ≡ sweep_of_data (view value.now) }
+    ensures times { IfSome result HasTimes }
 {
     if has_members(value, 3) {
         Some(Opening::Sweep)
@@ -212,7 +219,8 @@ fn want_at(value: &Value) -> Option<u64>
 }
 
 fn time_at(value: &Value, field: &str) -> Option<u64>
-    ensures { result ≡ time_at field.now (view value.now) }
+    ensures time { result ≡ time_at field.now (view value.now) }
+    ensures below { IfSome result (λ n. n < 4000000000000000000) }
 {
     match number_at(value, field) {
         Some(time) if time < TIME_END => Some(time),

@@ -1,7 +1,7 @@
 // The command of a line.
 ghost use Rattle.std.specs.Prelude.{◌≡◌, ◌<◌, IfOk, IfSome};
 ghost use Rattle.serde_json.specs.View.{view};
-ghost use Rattle.keep_history.specs.Script.{command_of, command_of_data, finishes, is_open, opens, reading_of};
+ghost use Rattle.keep_history.specs.Script.{command_of, command_of_data, finishes, is_open, opens, reading_of, HasCommandTimes};
 ghost use Rattle.keep_history.specs.Names.{state_of_name};
 
 use crate::fields::{name_at, reading_at};
@@ -22,6 +22,7 @@ pub fn read_command(
 ) -> Result<Option<Command>, NoMemory>
     ensures command { IfOk result (λ o. o ≡ command_of names.now.entries text.now) }
     ensures reading { IfOk result (λ o. IfSome o (λ c. reading_of c < 4000000000000000000)) }
+    ensures times { IfOk result (λ o. IfSome o HasCommandTimes) }
 {
     match value_of(alloc, text)? {
         Some(value) => command_of_value(alloc, names, &value),
@@ -36,6 +37,7 @@ fn command_of_value(
 ) -> Result<Option<Command>, NoMemory>
     ensures command { IfOk result (λ o. o ≡ command_of_data names.now.entries (view value.now)) }
     ensures reading { IfOk result (λ o. IfSome o (λ c. reading_of c < 4000000000000000000)) }
+    ensures times { IfOk result (λ o. IfSome o HasCommandTimes) }
 {
     if value.get("open").is_some() {
         opens(alloc, names, value)
@@ -51,6 +53,7 @@ fn opens(
 ) -> Result<Option<Command>, NoMemory>
     ensures command { IfOk result (λ o. o ≡ opens names.now.entries (view value.now)) }
     ensures reading { IfOk result (λ o. IfSome o (λ c. reading_of c < 4000000000000000000)) }
+    ensures times { IfOk result (λ o. IfSome o HasCommandTimes) }
 {
     let Some(name) = name_at(alloc, value, "open")? else {
         return Ok(None);
@@ -81,6 +84,7 @@ fn finishes(
 ) -> Result<Option<Command>, NoMemory>
     ensures command { IfOk result (λ o. o ≡ finishes names.now.entries (view value.now)) }
     ensures reading { IfOk result (λ o. IfSome o (λ c. reading_of c < 4000000000000000000)) }
+    ensures times { IfOk result (λ o. IfSome o HasCommandTimes) }
 {
     let Some(name) = name_at(alloc, value, "finish")? else {
         return Ok(None);

@@ -1,8 +1,8 @@
 // What a line opens a task with.
-ghost use Rattle.std.specs.Prelude.{◌≡◌, ◌<◌, ◌^◌, IfOk, Option, None, Some, option_map, option_copied};
+ghost use Rattle.std.specs.Prelude.{◌≡◌, ◌<◌, ◌^◌, IfOk, IfSome, Option, None, Some, option_map, option_copied};
 ghost use Rattle.serde_json.specs.View.{view};
 ghost use Rattle.serde_json.specs.Find.{get};
-ghost use Rattle.keep_history.specs.Script.{digest_at, digest_of_data, ended_locator, get_of_data, locator_of_data, locator_of_reference, members_with, opening_of_kind, put_of_data, restart_of_data, touch_of_data, untrash_of_data};
+ghost use Rattle.keep_history.specs.Script.{digest_at, digest_of_data, ended_locator, get_of_data, locator_of_data, locator_of_reference, members_with, opening_of_kind, put_of_data, restart_of_data, touch_of_data, untrash_of_data, HasTimes};
 ghost use Rattle.keep_history.specs.Names.{state_of_name};
 
 use crate::collections::table_opening_of_kind;
@@ -21,7 +21,8 @@ pub(crate) fn opening_of_kind(
     kind: &[u8],
     value: &Value,
 ) -> Result<Option<Opening>, NoMemory>
-    ensures { IfOk result (λ o. o ≡ opening_of_kind names.now.entries kind.now (view value.now)) }
+    ensures opening { IfOk result (λ o. o ≡ opening_of_kind names.now.entries kind.now (view value.now)) }
+    ensures times { IfOk result (λ o. IfSome o HasTimes) }
 {
     if kind == b"put".as_slice() {
         put_of_value(alloc, value)
@@ -39,7 +40,8 @@ pub(crate) fn opening_of_kind(
 }
 
 fn put_of_value(alloc: Global, value: &Value) -> Result<Option<Opening>, NoMemory>
-    ensures { IfOk result (λ o. o ≡ put_of_data (view value.now)) }
+    ensures opening { IfOk result (λ o. o ≡ put_of_data (view value.now)) }
+    ensures times { IfOk result (λ o. IfSome o HasTimes) }
 {
     let Some(token) = text_at(value, "token") else {
         return Ok(None);
@@ -72,7 +74,8 @@ fn get_of_value(
     names: &BTreeMap<Bytes, TaskState>,
     value: &Value,
 ) -> Result<Option<Opening>, NoMemory>
-    ensures { IfOk result (λ o. o ≡ get_of_data names.now.entries (view value.now)) }
+    ensures opening { IfOk result (λ o. o ≡ get_of_data names.now.entries (view value.now)) }
+    ensures times { IfOk result (λ o. IfSome o HasTimes) }
 {
     let Some(token) = text_at(value, "token") else {
         return Ok(None);
@@ -101,7 +104,8 @@ fn touch_of_value(
     names: &BTreeMap<Bytes, TaskState>,
     value: &Value,
 ) -> Result<Option<Opening>, NoMemory>
-    ensures { IfOk result (λ o. o ≡ touch_of_data names.now.entries (view value.now)) }
+    ensures opening { IfOk result (λ o. o ≡ touch_of_data names.now.entries (view value.now)) }
+    ensures times { IfOk result (λ o. IfSome o HasTimes) }
 {
     let Some(token) = text_at(value, "token") else {
         return Ok(None);
@@ -126,7 +130,8 @@ fn touch_of_value(
 }
 
 fn untrash_of_value(alloc: Global, value: &Value) -> Result<Option<Opening>, NoMemory>
-    ensures { IfOk result (λ o. o ≡ untrash_of_data (view value.now)) }
+    ensures opening { IfOk result (λ o. o ≡ untrash_of_data (view value.now)) }
+    ensures times { IfOk result (λ o. IfSome o HasTimes) }
 {
     let Some(token) = text_at(value, "token") else {
         return Ok(None);
@@ -148,7 +153,8 @@ fn untrash_of_value(alloc: Global, value: &Value) -> Result<Option<Opening>, NoM
 }
 
 fn restart_of_value(value: &Value) -> Option<Opening>
-    ensures { result ≡ restart_of_data (view value.now) }
+    ensures opening { result ≡ restart_of_data (view value.now) }
+    ensures times { IfSome result HasTimes }
 {
     let device = device_at(value)?;
     if has_members(value, 4) {

@@ -1,4 +1,5 @@
 use Rattle.std.proofs.Common.{refl, ◌∙◌, arith, None}
+use Rattle.keep_run.proofs.Counters.{few-to}
 use Rattle.keep_run.proofs.LineWhole.{scene-state}
 use Rattle.keep_run.proofs.RunSteps.{AllTold-map, ended-done, ended-error, ended-line, going-more, going-start}
 use Rattle.keep_run.proofs.run.run_lines.Goals as goal
@@ -9,6 +10,9 @@ loop-line-init g c = record {
   few = omega (arith, c.requires.events);
   names = rw c.requires.names (omega arith);
   rules = c.requires.rules;
+  table_rules = c.requires.table_rules;
+  table_few = rw c.requires.table (record { numbers = omega arith; revisions = omega arith; rounds = omega arith });
+  askable = rw c.requires.names tt;
   name = refl;
   source_later = omega arith;
   store_later = omega arith;
@@ -42,6 +46,9 @@ loop-line-preserved g c =
       few = omega (arith, n.1, inv.few, c.in-Ok.ensures.events);
       names = omega (arith, n.1, inv.names, c.in-Ok.ensures.few);
       rules = c.in-Ok.ensures.rules ∙ inv.rules;
+      table_rules = c.in-Ok.ensures.table_rules ∙ inv.table_rules;
+      table_few = few-to _ _ _ n.1 (c.in-Ok.ensures.table_few _ inv.table_few);
+      askable = c.in-Ok.ensures.askable;
       name = c.in-Ok-Some.ensures.same_reference ∙ inv.name;
       source_later = omega (arith, c.in-Ok-Some.ensures.later, inv.source_later);
       store_later = omega (arith, c.in-Ok.ensures.store_later, inv.store_later);

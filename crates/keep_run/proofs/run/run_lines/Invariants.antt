@@ -3,6 +3,7 @@ use Rattle.keep_base.specs.Lines.{lines_left, lines_failed, lines_taken, lines_n
 use Rattle.keep_volume.specs.Calls.{state_of}
 use Rattle.keep_event.specs.Requests.{rules_of as table_rules_of}
 use Rattle.keep_history.specs.Effects.{rules_of}
+use Rattle.keep_run.specs.Askable.{AreAskable}
 use Rattle.keep_run.specs.Asked.{scene_of}
 use Rattle.keep_run.specs.Commands.{AreFew}
 use Rattle.keep_run.specs.Runs.{AllTold, Going}
@@ -16,6 +17,7 @@ invariant-loop-line g l = record {
   rules : l.stage.volume.rules ≡ rules_of l.config;
   table_rules : l.stage.table.rules ≡ table_rules_of l.config;
   table_few : AreFew (lines_number l.lines) l.stage.table.state;
+  askable : AreAskable l.stage.names.entries;
   name : lines_name l.lines ≡ lines_name l.fn.lines;
   source_later : g.R.Source.faults (lines_source l.fn.lines) ≤ g.R.Source.faults (lines_source l.lines);
   store_later : l.fn.stage.volume.faults ≤ l.stage.volume.faults;

@@ -1,0 +1,85 @@
+-- Open tasks stay in the form that may be asked.
+use Rattle.std.proofs.Common.{◌≡◌, ℕ, List, Option, None, Some, IfSome, Result, Ok, Err, subst}
+use Rattle.keep_spec.specs.Config.{Configuration}
+use Rattle.keep_event.specs.declared.task.Opening.{Opening}
+use Rattle.keep_event.specs.declared.task.Opening.TheVariants as Open
+use Rattle.keep_event.specs.declared.task.Outcome.{Outcome}
+use Rattle.keep_event.specs.declared.task.Outcome.TheVariants as O
+use Rattle.keep_event.specs.declared.task.Task.{Task}
+use Rattle.keep_event.specs.declared.task.TaskState.{TaskState}
+use Rattle.keep_event.specs.declared.task.TaskState.TheVariants as S
+use Rattle.keep_history.specs.Effects.{state_after}
+use Rattle.keep_history.specs.Names.{Names, state_of_name, with_name}
+use Rattle.keep_history.specs.Script.{HasTimes}
+use Rattle.keep_history.specs.Tasks.{opened}
+use Rattle.keep_run.specs.Askable.{IsAskable, IsAskableState, AreAskable}
+use Rattle.keep_run.specs.Commands.{open_task_of}
+use Rattle.keep_run.proofs.NamesAll.{named, looked-up}
+use Rattle.keep_run.proofs.Openings.{IsMade, OkHas, opened-has}
+
+made : (c : Configuration) (opening : Opening) → HasTimes opening → IsMade IsAskable c opening
+made c (Open.Put token server bytes hash) h = λ id. tt
+made c (Open.Get token server locator) h = λ hash. tt
+made c (Open.Touch token server locator) h = λ id hash. tt
+made c (Open.Untrash token server hash) h = tt
+made c (Open.Restart device) h = tt
+made c (Open.Save request) h = tt
+made c (Open.Update collection preserve request) h = tt
+made c (Open.Read token collection version) h = tt
+made c (Open.Trash token collection trash_at delete_at) h = h
+made c (Open.Restore token collection) h = tt
+made c Open.Sweep h = tt
+
+-- an opening of a line makes a task that may be asked
+pub opened-askable : (c : Configuration) (opening : Opening) (reading : ℕ) (task : Task) → HasTimes opening → opened c opening reading ≡ Ok task → IsAskable task
+opened-askable c opening reading task h e = subst (OkHas IsAskable) e (opened-has IsAskable c opening reading (made c opening h))
+
+pub open-askable : (name : List ℕ) (task : Task) (actor : ℕ) (names : Names) → IsAskable task → AreAskable names → AreAskable (with_name name (S.Open task actor) names)
+open-askable name task actor names p h = named IsAskableState name (S.Open task actor) names p h
+
+after-askable : (o : Outcome) → IsAskableState (state_after o)
+after-askable (O.Stored locator) = tt
+after-askable (O.Touched locator) = tt
+after-askable (O.Bytes bytes) = tt
+after-askable (O.Untrashed copies) = tt
+after-askable O.Restarted = tt
+after-askable O.UnknownToken = tt
+after-askable O.TooLong = tt
+after-askable (O.HashMismatch computed) = tt
+after-askable O.Collision = tt
+after-askable O.NoRoom = tt
+after-askable O.StoreFault = tt
+after-askable (O.BadLocator at) = tt
+after-askable O.Forbidden = tt
+after-askable (O.Expired expiry) = tt
+after-askable O.NotFound = tt
+after-askable (O.Corrupt found) = tt
+after-askable (O.Saved uuid version portable) = tt
+after-askable (O.Updated uuid version portable) = tt
+after-askable (O.Row version want trash_at text) = tt
+after-askable (O.TrashSet trash_at delete_at) = tt
+after-askable O.Restored = tt
+after-askable (O.Swept versions collections) = tt
+after-askable (O.Refused answer) = tt
+
+-- a name whose task has ended
+pub ended-askable : (name : List ℕ) (o : Outcome) (names : Names) → AreAskable names → AreAskable (with_name name (state_after o) names)
+ended-askable name o names h = named IsAskableState name (state_after o) names (after-askable o) h
+
+-- an open task may be asked
+pub found-askable : (name : List ℕ) (names : Names) (task : Task) → AreAskable names → open_task_of (state_of_name name names) ≡ Some task → IsAskable task
+found-askable name names task h e = by (state_of_name name names) (looked-up IsAskableState name names h) e
+  where
+    by : (o : Option TaskState) → IfSome o IsAskableState → open_task_of o ≡ Some task → IsAskable task
+    by None p e = absurd cc
+    by (Some (S.Open t actor)) p e = subst IsAskable (same e) p
+      where
+        same : Some t ≡ Some task → t ≡ task
+        same e = cc
+    by (Some (S.Located locator)) p e = absurd cc
+    by (Some (S.Row text)) p e = absurd cc
+    by (Some S.Ended) p e = absurd cc
+
+-- a name that was given up
+pub gone-askable : (name : List ℕ) (names : Names) → AreAskable names → AreAskable (with_name name S.Ended names)
+gone-askable name names h = named IsAskableState name S.Ended names tt h

@@ -1,0 +1,32 @@
+-- What holds of the state of every name.
+use Rattle.std.proofs.Common.{◌≡◌, ℕ, Bool, true, false, List, [], ◌∷◌, cond, Option, None, Some, IfSome}
+use Rattle.std.specs.List.{AllByRecursion}
+use Rattle.std.specs.Ordering.{match_ordering, nat_cmp}
+use Rattle.std.specs.Cmp.Lexicographic.{slice_cmp}
+use Rattle.std.specs.BTreeMap.{is_at}
+use Rattle.std.specs.declared.cmp.Ordering.{Ordering}
+use Rattle.std.specs.declared.cmp.Ordering.TheVariants.{Less, Equal, Greater}
+use Rattle.keep_event.specs.declared.task.TaskState.{TaskState}
+use Rattle.keep_history.specs.Names.{Names, state_of_name, with_name}
+
+module _ (P : TaskState → Type 0) where
+  abbrev pub AllNames : Names → Type 0
+  AllNames names = AllByRecursion (λ n. P n.1) names
+
+  named-by : (o : Ordering) (name : List ℕ) (st : TaskState) (e : List ℕ × TaskState) (es rest : Names) → P st → P e.1 → AllNames es → AllNames rest →
+      AllNames (match_ordering o ((name, st) ∷ e ∷ es) ((e.0, st) ∷ es) (e ∷ rest))
+  named-by Less name st e es rest p q h k = (p, (q, h))
+  named-by Equal name st e es rest p q h k = (p, h)
+  named-by Greater name st e es rest p q h k = (q, k)
+
+  pub named : (name : List ℕ) (st : TaskState) (names : Names) → P st → AllNames names → AllNames (with_name name st names)
+  named name st [] p h = (p, tt)
+  named name st (e ∷ es) p h = named-by (slice_cmp nat_cmp name e.0) name st e es (with_name name st es) p h.0 h.1 (named name st es p h.1)
+
+  looked-by : (b : Bool) (st : TaskState) (rest : Option TaskState) → P st → IfSome rest P → IfSome (cond b (Some st) rest) P
+  looked-by true st rest p h = p
+  looked-by false st rest p h = h
+
+  pub looked-up : (name : List ℕ) (names : Names) → AllNames names → IfSome (state_of_name name names) P
+  looked-up name [] h = tt
+  looked-up name (e ∷ es) h = looked-by (is_at (slice_cmp nat_cmp name) e.0) e.1 (state_of_name name es) h.0 (looked-up name es h.1)

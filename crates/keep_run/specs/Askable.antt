@@ -1,0 +1,21 @@
+-- Tasks that may be asked: what they ask of the table is in its form. For private clauses.
+use Rattle.std.specs.Prelude.{⊤}
+use Rattle.std.specs.List.{AllByRecursion}
+use Rattle.keep_event.specs.declared.task.Task.{Task}
+use Rattle.keep_event.specs.declared.task.Task.TheVariants as T
+use Rattle.keep_event.specs.declared.task.TaskState.{TaskState}
+use Rattle.keep_event.specs.declared.task.TaskState.TheVariants as S
+use Rattle.keep_collections.specs.Verdicts.{IsAsked}
+use Rattle.keep_history.specs.Names.{Names}
+
+abbrev pub IsAskable : Task → Type 0
+IsAskable (T.Table q) = IsAsked q
+IsAskable _ = ⊤
+
+abbrev pub IsAskableState : TaskState → Type 0
+IsAskableState (S.Open task actor) = IsAskable task
+IsAskableState _ = ⊤
+
+-- each task that is open may be asked
+abbrev pub AreAskable : Names → Type 0
+AreAskable names = AllByRecursion (λ n. IsAskableState n.1) names
