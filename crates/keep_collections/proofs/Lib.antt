@@ -1,0 +1,5 @@
+pub mod Ascending
+pub mod Changes
+pub mod Locators
+pub mod Saves
+pub mod Tokens
