@@ -147,9 +147,9 @@ ranges_tidy m good =
     record {
       ascending = subst (λ ks. IsStrictlySortedBy byte_order ks) (sym (paths_of gs)) (grouped-ascending (pieces m));
       named = keys_named is_named_path gs (grouped-filled (pieces m)) (grouped-each (λ k _. is_named_path k) (pieces m)
-        (list_all-flat_map names_its_files stream_pieces m.streams ∙ list_all-weaker is_good_stream (λ s. list_all names_its_files (stream_pieces s)) stream_named m.streams good));
+          (list_all-flat_map names_its_files stream_pieces m.streams ∙ list_all-weaker is_good_stream (λ s. list_all names_its_files (stream_pieces s)) stream_named m.streams good));
       sound = ranges_sound m good;
-      apart = all_joined gs
+      apart = all_joined gs;
     }
 
 -- The pieces of the normal form.
@@ -206,7 +206,7 @@ unfolding normal_of
 pieces_again fs named =
     let gs = grouped (by_directory fs) in
     let owned = grouped-each own (by_directory fs) (list_all-map (λ e. own e.0 e.1) (λ f. (directory f, f)) fs
-        ∙ list_all-weaker (λ (f : FileParts). is_named_path f.path) (λ f. own (directory f) f) (λ f h. and_from (bytes_eq (directory f) (directory f)) (is_named_path f.path) ((bytes_decides (directory f) (directory f)).1 refl) h) fs named) in
+    ∙ list_all-weaker (λ (f : FileParts). is_named_path f.path) (λ f. own (directory f) f) (λ f h. and_from (bytes_eq (directory f) (directory f)) (is_named_path f.path) ((bytes_decides (directory f) (directory f)).1 refl) h) fs named) in
     flat_map-map stream_pieces line_of gs
     ∙ flat_map_same (each_at own) (λ g. stream_pieces (line_of g)) (λ g. flat_map (file_pieces g) g.1) line_again gs owned
 
@@ -273,7 +273,7 @@ selected_again fs named k =
     let gs = grouped (by_directory fs) in
     let d = (path_parts k).0 in
     let owned = grouped-each own (by_directory fs) (list_all-map (λ e. own e.0 e.1) (λ f. (directory f, f)) fs
-        ∙ list_all-weaker (λ (f : FileParts). is_named_path f.path) (λ f. own (directory f) f) (λ f h. and_from (bytes_eq (directory f) (directory f)) (is_named_path f.path) ((bytes_decides (directory f) (directory f)).1 refl) h) fs named) in
+    ∙ list_all-weaker (λ (f : FileParts). is_named_path f.path) (λ f. own (directory f) f) (λ f h. and_from (bytes_eq (directory f) (directory f)) (is_named_path f.path) ((bytes_decides (directory f) (directory f)).1 refl) h) fs named) in
     let Q : FileParts → List (List Part) = λ f. cond (has_key k f.path) (values (group_of fs d) f) [] in
     ap (selected k) (pieces_again fs named)
     ∙ selected_groups k gs
@@ -366,4 +366,3 @@ ranges-normal m good = ap (map stripped_file) (files_again (ranges m) (ranges_ti
 
 pub normal-normal : (m : Manifest) → IsGood m → normal (normal m) ≡ normal m
 normal-normal m good = ap normal_of (ranges-normal m good)
-

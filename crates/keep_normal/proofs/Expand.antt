@@ -42,7 +42,7 @@ expand_first b bs start from p e at sound =
     let long : size b ≡ size p.locator = ap size e in
     let s = span_from from p.length in
     let here : part_in start s b ≡ p =
-        same_part b p.locator (max start from - start) p.offset (min (start + size b) (from + p.length) - max start from) p.length e (omega arith) (omega (arith, is.ends, long, at)) in
+    same_part b p.locator (max start from - start) p.offset (min (start + size b) (from + p.length) - max start from) p.length e (omega arith) (omega (arith, is.ends, long, at)) in
     ap (λ q. kept q ++ parts_in (start + size b) s bs) here
     ∙ ap (λ ps. ps ++ parts_in (start + size b) s bs) (kept_some p is.some)
     ∙ ap (λ ps. p ∷ ps) (parts_behind (start + size b) s bs (omega (arith, is.ends, long, at)))

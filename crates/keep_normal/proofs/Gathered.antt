@@ -1,17 +1,17 @@
 -- What values put together by key keep.
-use Rattle.std.proofs.Common.{◌≡◌, ℕ, Bool, true, false, cond, List, [], ◌∷◌, ◌++◌, Some, refl, ◌∙◌}
+use Rattle.std.proofs.Common.{◌≡◌, ℕ, Bool, true, false, cond, List, [], ◌∷◌, ◌++◌, Some, refl, ap, ◌∙◌}
 use Rattle.std.specs.Prelude.{fold, unwrap_or}
 use Rattle.std.specs.Ordering.{match_ordering}
 use Rattle.std.specs.declared.cmp.Ordering.{Ordering}
 use Rattle.std.specs.declared.cmp.Ordering.TheVariants.{Less, Equal, Greater}
 use Rattle.std.specs.List.{list_all}
 use Rattle.std.specs.List.Sorted.{IsStrictlySortedBy}
-use Rattle.std.specs.Map.{lookup}
+use Rattle.std.specs.Map.{lookup, remove_entry}
 use Rattle.std.specs.BTreeMap.{insert_entry, is_at}
 use Rattle.std.proofs.lemmas.Bool.{and_parts, and_from}
 use Rattle.std.proofs.lemmas.List.Folds.{list_all-append}
 use Rattle.keep_normal.specs.Grouped.{byte_order, values_at, put, grouped}
-use Rattle.keep_normal.proofs.Table.{IsAscending, ascending-insert}
+use Rattle.keep_normal.proofs.Table.{IsAscending, ascending-insert, insert_removed}
 
 -- each value of each key passes
 abbrev pub all_values : {X : Type 0} → (X → Bool) → List (List ℕ × List X) → Bool
@@ -67,3 +67,10 @@ along-ascending m (e ∷ es) h = along-ascending (put m e) es (ascending-insert 
 pub grouped-ascending : {X : Type 0} (pairs : List (List ℕ × X)) → IsAscending (grouped pairs)
 unfolding grouped IsStrictlySortedBy
 grouped-ascending pairs = along-ascending [] pairs tt
+
+-- the values of a key, taken out and put back with one more
+pub put_after : {X : Type 0} (m removed n : List (List ℕ × List X)) (k : List ℕ) (x : X) (v : List X) → IsAscending m
+    → removed ≡ remove_entry (is_at (byte_order k)) m → v ≡ values_at m k ++ x ∷ [] → n ≡ insert_entry byte_order removed k v → n ≡ put m (k, x)
+unfolding put
+put_after m removed n k x v s e₁ e₂ e₃ =
+    e₃ ∙ ap (λ es. insert_entry byte_order es k v) e₁ ∙ insert_removed k v m s ∙ ap (insert_entry byte_order m k) e₂

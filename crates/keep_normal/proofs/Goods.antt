@@ -261,13 +261,13 @@ line_good (k, f ∷ fs) filled each small =
     let sound = list_all-weaker (fit k) (λ f. are_sound f.parts) (λ f h. (and_parts (bytes_eq (directory f) k && is_whole_path f.path) (are_sound f.parts) h).1) gs each in
     let locators = line_locators bs (blocks_locators gs sound) in
     let segments = list_all-flat_map (is_segment total) (file_segments bs) gs
-        ∙ list_all-weaker (λ f. fit k f && list_all (is_known bs) f.parts) (λ f. list_all (is_segment total) (file_segments bs f))
-        (λ f h.
-        let p = and_parts (fit k f) (list_all (is_known bs) f.parts) h in
-        let q = and_parts (bytes_eq (directory f) k && is_whole_path f.path) (are_sound f.parts) p.0 in
-        let w = and_parts (is_stream_name (directory f)) (is_path (file_name f)) (and_parts (bytes_eq (directory f) k) (is_whole_path f.path) q.0).1 in
-        file_segments_fit bs f w.1 p.1 q.1)
-        gs (all_both (fit k) (λ f. list_all (is_known bs) f.parts) gs each (blocks_known gs)) in
+    ∙ list_all-weaker (λ f. fit k f && list_all (is_known bs) f.parts) (λ f. list_all (is_segment total) (file_segments bs f))
+    (λ f h.
+    let p = and_parts (fit k f) (list_all (is_known bs) f.parts) h in
+    let q = and_parts (bytes_eq (directory f) k && is_whole_path f.path) (are_sound f.parts) p.0 in
+    let w = and_parts (is_stream_name (directory f)) (is_path (file_name f)) (and_parts (bytes_eq (directory f) k) (is_whole_path f.path) q.0).1 in
+    file_segments_fit bs f w.1 p.1 q.1)
+    gs (all_both (fit k) (λ f. list_all (is_known bs) f.parts) gs each (blocks_known gs)) in
     let a = and_from (is_stream_name k) (ltb 0 (length (or_empty_block bs))) name locators.0 in
     let b = and_from (is_stream_name k && ltb 0 (length (or_empty_block bs))) (ltb 0 (length (flat_map (file_segments bs) gs))) a (some_segments bs gs filled) in
     let c = and_from (is_stream_name k && ltb 0 (length (or_empty_block bs)) && ltb 0 (length (flat_map (file_segments bs) gs))) (list_all is_locator (or_empty_block bs)) b locators.1 in

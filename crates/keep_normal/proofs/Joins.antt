@@ -98,6 +98,7 @@ joined-map {X} touches both f t b (x ∷ xs) = ap (joined_before touches both (f
     by_touch : (y : X) (ys : List X) (c : Bool) → one_or_two both c (f x) (f y) (map f ys) ≡ map f (one_or_two both c x y ys)
     by_touch y ys true = ap (λ z. z ∷ map f ys) (b x y)
     by_touch y ys false = refl
+
     first : (ys : List X) → joined_before touches both (f x) (map f ys) ≡ map f (joined_before touches both x ys)
     first [] = refl
     first (y ∷ ys) = ap (λ c. one_or_two both c (f x) (f y) (map f ys)) (t x y) ∙ by_touch y ys (touches x y)

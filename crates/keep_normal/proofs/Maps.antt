@@ -132,6 +132,7 @@ values_are {X} (g ∷ m) k s = by_key (has_key k g.0) refl (values_are m k (sort
   where
     rest : List X
     rest = flat_map (λ g. cond (has_key k g.0) g.1 []) m
+
     by_key : (b : Bool) → has_key k g.0 ≡ b → values_at m k ≡ rest → unwrap_or (cond b (Some g.1) (found m k)) [] ≡ cond b g.1 [] ++ rest
     by_key true h ih =
         let P : List ℕ → Type 0 = λ q. AllByRecursion (λ y. byte_order q y ≡ Less) (keys_of m) in

@@ -13,7 +13,7 @@ pub cut_last-found : (i : ℕ) (path behind : List ℕ) → i < length path → 
     → Some (take i path, behind) ≡ cut_last path
 cut_last-found i path behind inside slash e none =
     let whole : path ≡ take i path ++ 47 ∷ drop (i + 1) path =
-        sym (take-append-drop i path) ∙ ap (λ ys. take i path ++ ys) (drop-cons path i 0 inside ∙ ap (λ n. get_or path i 0 ∷ drop n path) (sym (add-one i)) ∙ ap (λ b. b ∷ drop (i + 1) path) slash) in
+    sym (take-append-drop i path) ∙ ap (λ ys. take i path ++ ys) (drop-cons path i 0 inside ∙ ap (λ n. get_or path i 0 ∷ drop n path) (sym (add-one i)) ∙ ap (λ b. b ∷ drop (i + 1) path) slash) in
     sym (ap cut_last whole ∙ cut_last-at (take i path) (drop (i + 1) path) none ∙ ap (λ b. Some (take i path, b)) (sym e))
 
 -- another byte

@@ -59,6 +59,7 @@ behind_sound (p ∷ []) q h hq = by_touch (touch p q) refl
   where
     hp : is_sound p ≡ true
     hp = (and_parts (is_sound p) true h).0
+
     by_touch : (t : Bool) → touch p q ≡ t → are_sound (cond t (both_parts p q ∷ []) (p ∷ q ∷ [])) ≡ true
     by_touch true t = and_from (is_sound (both_parts p q)) true (both_sound p q t hp hq) refl
     by_touch false t = and_from (is_sound p) (are_sound (q ∷ [])) hp (and_from (is_sound q) true hq refl)
@@ -70,10 +71,10 @@ pub part_joins : IsJoining touch both_parts
 part_joins = record {
   first = λ x y z t. refl;
   last = λ x y z t.
-    let is = touch_is x y t in
-    let end : x.offset + (x.length + y.length) ≡ y.offset + y.length = omega (arith, is.next) in
-    ap (λ s. bytes_eq s (stripped z.locator) && eqb (x.offset + (x.length + y.length)) z.offset) is.one_block
-    ∙ ap (λ n. bytes_eq (stripped y.locator) (stripped z.locator) && eqb n z.offset) end;
+      let is = touch_is x y t in
+      let end : x.offset + (x.length + y.length) ≡ y.offset + y.length = omega (arith, is.next) in
+      ap (λ s. bytes_eq s (stripped z.locator) && eqb (x.offset + (x.length + y.length)) z.offset) is.one_block
+      ∙ ap (λ n. bytes_eq (stripped y.locator) (stripped z.locator) && eqb n z.offset) end;
   order = λ x y z. ap (λ n. part_of x.locator x.offset n) (sym (add_assoc x.length y.length z.length));
 }
 

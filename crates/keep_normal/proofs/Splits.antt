@@ -54,10 +54,10 @@ cut_both start a b l rest e fa fb h some_a some_b =
     let pa = part_in start a l in
     let pb = part_in start b l in
     let whole : part_in start (both_spans a b) l ≡ both_parts pa pb =
-        same_part l (max start a.from - start) (max start a.from - start) (min (start + size l) b.to - max start a.from) (min (start + size l) a.to - max start a.from + (min (start + size l) b.to - max start b.from)) refl (omega arith) in
+    same_part l (max start a.from - start) (max start a.from - start) (min (start + size l) b.to - max start a.from) (min (start + size l) a.to - max start a.from + (min (start + size l) b.to - max start b.from)) refl (omega arith) in
     let touching : touch pa pb ≡ true =
-        and_from (bytes_eq (stripped l) (stripped l)) (eqb (max start a.from - start + (min (start + size l) a.to - max start a.from)) (max start b.from - start))
-        ((bytes_decides (stripped l) (stripped l)).1 refl) (eq-eqb (max start a.from - start + (min (start + size l) a.to - max start a.from)) (max start b.from - start) (omega arith)) in
+    and_from (bytes_eq (stripped l) (stripped l)) (eqb (max start a.from - start + (min (start + size l) a.to - max start a.from)) (max start b.from - start))
+    ((bytes_decides (stripped l) (stripped l)).1 refl) (eq-eqb (max start a.from - start + (min (start + size l) a.to - max start a.from)) (max start b.from - start) (omega arith)) in
     ap (λ ps. joined_parts ((ps ++ kept pb) ++ rest)) (kept_some pa some_a)
     ∙ ap (λ ps. joined_parts (pa ∷ (ps ++ rest))) (kept_some pb some_b)
     ∙ before_two touch both_parts part_joins pa pb (joined_parts rest) touching

@@ -71,5 +71,5 @@ locator-stripped text h =
       a_number = ap is_number same ∙ parts.a_number;
       each_a_hint = ap (list_all is_hint) (hints-stripped text);
       long = omega (arith, parts.long, parts.within, digits);
-      within = omega (arith, parts.within, digits, count)
+      within = omega (arith, parts.within, digits, count);
     })

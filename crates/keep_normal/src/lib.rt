@@ -4,11 +4,11 @@
 mod block;
 mod blocks;
 mod fault;
-mod listing;
 mod groups;
 mod hash;
 mod joining;
 mod laws;
+mod listing;
 mod normal;
 mod part;
 mod path;
@@ -19,10 +19,10 @@ mod stripping;
 mod tests;
 
 pub use fault::NormalError;
-pub use laws::normal_forms_keep_files;
-pub use listing::files;
 pub use hash::{portable_hash, stripped_text};
 pub use keep_manifest::{BadManifest, Manifest};
 pub use keep_spec::Portable;
+pub use laws::normal_forms_keep_files;
+pub use listing::files;
 pub use normal::normalize;
 pub use part::{FileParts, Part};

@@ -119,11 +119,7 @@ fn path_of(alloc: Global, directory: &Bytes, name: &Bytes) -> Result<Bytes, Allo
 }
 
 // The file of a path and of what its segments name, in their order.
-fn file_of(
-    alloc: Global,
-    path: Bytes,
-    pieces: Items<Items<Part>>,
-) -> Result<FileParts, AllocError>
+fn file_of(alloc: Global, path: Bytes, pieces: Items<Items<Part>>) -> Result<FileParts, AllocError>
     requires { IsTrue (list_all are_sound pieces) }
     ensures { IfOk result (λ file. file ≡ file_of (path, pieces)) }
 {

@@ -9,8 +9,8 @@ ghost use Rattle.keep_normal.specs.Normal.{normal, is_small, is_small_stream, li
 ghost use Rattle.keep_normal.specs.Sound.{are_sound};
 
 use crate::fault::NormalError;
-use crate::listing::files;
 use crate::groups::{Groups, put};
+use crate::listing::files;
 use crate::part::{FileParts, Part};
 use crate::path::path_parts;
 use crate::segments::line_of;

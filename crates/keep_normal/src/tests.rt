@@ -92,7 +92,8 @@ fn normal_forms(rt: HostRuntime) -> Result<(), Fail> {
 
 #[test]
 fn too_large(rt: HostRuntime) {
-    let text = b"./a acbd18db4cc2f85cedef654fccc4a4d8+9000000000000000000 0:1:x\n./a 37b51d194a7513e45b56f6524f2d51f2+9000000000000000000 0:1:y\n./a 73feffa4b7f6bb68e44cf984c85f6e88+9000000000000000000 0:1:z\n";
+    let text =
+        b"./a acbd18db4cc2f85cedef654fccc4a4d8+9000000000000000000 0:1:x\n./a 37b51d194a7513e45b56f6524f2d51f2+9000000000000000000 0:1:y\n./a 73feffa4b7f6bb68e44cf984c85f6e88+9000000000000000000 0:1:z\n";
     let answer = normal_text(rt.alloc(), text);
     assert!(rt; matches!(answer, Err(NormalError::TooLarge)));
 }

@@ -17,7 +17,7 @@ returns-in_err-line_of c =
     let all = map line_of entries in
     let item : List ℕ × List FileParts = (c.in-Some.name, c.in-Some.files) in
     let at = iter_turn (λ e. e) entries c.loop-name.yielded c.into_iter-name-iterator.result c.loop-name.name-iterator c.next.new.self c.next.result
-        c.into_iter-name-iterator.ensures.into_iter_gives.0 c.loop-name.yielded_by item c.in-Some.is c.next.ensures.steps in
+    c.into_iter-name-iterator.ensures.into_iter_gives.0 c.loop-name.yielded_by item c.in-Some.is c.next.ensures.steps in
     let P = λ (r : _). Gathers r all (list_all is_small_stream all) in
     subst P (sym (p.1 ∙ ap Err p.2)) (fails_with c.in_err-line_of.field-0.0 _ (list_all is_small_stream all) c.in_err-line_of.ensures
     (λ h. list_all-map is_small_stream line_of entries

@@ -23,11 +23,11 @@ returns-clause-known c =
     let long = ap length items ∙ length-append bs (l ∷ []) in
     record {
       starts = λ q. c.in_ok-insert.ensures.updates.0 q
-        ∙ ap (λ k. cond (is_at (byte_order k) q) (Some total) (get byte_order old q)) key
-        ∙ ap (λ b. cond b (Some total) (get byte_order old q)) (is_eq-slice_cmp l q)
-        ∙ ap (λ n. cond (bytes_eq l q) (Some n) (get byte_order old q)) c.requires.known.summed
-        ∙ ap (λ o. cond (bytes_eq l q) (Some (total_size bs)) o) (c.requires.known.starts q)
-        ∙ sym (ap (λ xs. start_at xs q) items ∙ start-push bs l q c.requires.new);
+          ∙ ap (λ k. cond (is_at (byte_order k) q) (Some total) (get byte_order old q)) key
+          ∙ ap (λ b. cond b (Some total) (get byte_order old q)) (is_eq-slice_cmp l q)
+          ∙ ap (λ n. cond (bytes_eq l q) (Some n) (get byte_order old q)) c.requires.known.summed
+          ∙ ap (λ o. cond (bytes_eq l q) (Some (total_size bs)) o) (c.requires.known.starts q)
+          ∙ sym (ap (λ xs. start_at xs q) items ∙ start-push bs l q c.requires.new);
       summed = omega (arith, bytes, sum, c.requires.known.summed);
-      bounded = omega (arith, long, c.from.ensures, c.block_size-size.ensures.bound, c.requires.known.bounded)
+      bounded = omega (arith, long, c.from.ensures, c.block_size-size.ensures.bound, c.requires.known.bounded);
     }
