@@ -12,7 +12,7 @@ struct Case {
     text: &'static str,
 }
 
-const CASES: [Case; 9] = [
+const CASES: [Case; 14] = [
     Case {
         name: "a put and a get by its locator",
         script: r#"{"cluster":"zzzzz","ttl":100,"skew":1,"secret":"sesame","system_token":"sys","tokens":["alice","bob"],"devices":[{"capacity":1000}],"servers":[{"uuid":"zzzzz-bi6l4-000000000000000"}],"mounts":[{"uuid":"zzzzz-nyw5e-000000000000000","server":0,"device":0}],"versions":4,"trash_life":50}
@@ -192,6 +192,199 @@ u3 d0 NoTrash
 u3 = NotFound
 r1 d0 Restarted
 r1 = Restarted
+"#,
+    },
+    Case {
+        name: "saves of an empty file and of the empty text",
+        script: r#"{"cluster":"zzzzz","ttl":100,"skew":1,"secret":"sesame","system_token":"sys","tokens":["alice","bob"],"devices":[{"capacity":1000}],"servers":[{"uuid":"zzzzz-bi6l4-000000000000000"}],"mounts":[{"uuid":"zzzzz-nyw5e-000000000000000","server":0,"device":0}],"versions":4,"trash_life":50}
+{"open":"s1","at":1000000000000,"do":"save","token":"alice","manifest":". d41d8cd98f00b204e9800998ecf8427e+0 0:0:empty.txt\n","want":1}
+{"finish":"s1","at":1000000000000}
+{"open":"s2","at":1000000000000,"do":"save","token":"bob","manifest":[],"want":255}
+{"finish":"s2","at":1000000000000}
+"#,
+        text: r#"s1 table Saved 1 1 e2d9e00afdaee320118cec2e5963163e+51
+s1 = Saved zzzzz-4zz18-000000000000001 1 e2d9e00afdaee320118cec2e5963163e+51
+s2 table Saved 2 1 d41d8cd98f00b204e9800998ecf8427e+0
+s2 = Saved zzzzz-4zz18-000000000000002 1 d41d8cd98f00b204e9800998ecf8427e+0
+"#,
+    },
+    Case {
+        name: "a signature is good at its last nanosecond",
+        script: r#"{"cluster":"zzzzz","ttl":100,"skew":1,"secret":"sesame","system_token":"sys","tokens":["alice","bob"],"devices":[{"capacity":1000}],"servers":[{"uuid":"zzzzz-bi6l4-000000000000000"}],"mounts":[{"uuid":"zzzzz-nyw5e-000000000000000","server":0,"device":0}],"versions":4,"trash_life":50}
+{"open":"p1","at":1000000000000,"do":"put","token":"alice","server":0,"bytes":"666f6f"}
+{"finish":"p1","at":1000000000000}
+{"open":"s1","at":1100000000000,"do":"save","token":"alice","manifest":[". ",{"locator":"p1"}," 0:3:foo\n"],"want":1}
+{"finish":"s1","at":1100000000000}
+{"open":"s2","at":1100000000001,"do":"save","token":"alice","manifest":[". ",{"locator":"p1"}," 0:3:foo\n"],"want":1}
+{"finish":"s2","at":1100000000001}
+{"open":"s3","at":1000000000000,"do":"save","token":"bob","manifest":[". ",{"locator":"p1"}," 0:3:foo\n"],"want":1}
+{"finish":"s3","at":1000000000000}
+{"open":"s4","at":1000000000000,"do":"save","token":"carol","manifest":"x","want":0}
+{"finish":"s4","at":1000000000000}
+{"open":"s5","at":1000000000000,"do":"save","token":"alice","manifest":[". ",{"locator":"p1"}," 0:3:foo\n"],"want":0}
+{"finish":"s5","at":1000000000000}
+{"open":"s6","at":1000000000000,"do":"save","token":"alice","manifest":[". ",{"locator":"p1"}," 0:3:foo\n"],"want":256}
+{"finish":"s6","at":1000000000000}
+{"open":"s7","at":1000000000000,"do":"save","token":"alice","manifest":[". ",{"locator":"p1"}," 0:3:foo\n"],"want":0,"portable":"d41d8cd98f00b204e9800998ecf8427e+0"}
+{"finish":"s7","at":1000000000000}
+{"open":"s8","at":1000000000000,"do":"save","token":"alice","manifest":[". ",{"locator":"p1"}," 0:3:foo\n"],"want":2,"portable":"1f4b0bc7583c2a7f9102c395f4ffc5e3+45"}
+{"finish":"s8","at":1000000000000}
+{"open":"s9","at":1000000000000,"do":"save","token":"alice","manifest":". acbd18db4cc2f85cedef654fccc4a4d8+3+Ab8b72b6708e98beae946d0589334bd0d72b549d3@0000044c d41d8cd98f00b204e9800998ecf8427e+0 37b51d194a7513e45b56f6524f2d51f2+3+Kx 37b51d194a7513e45b56f6524f2d51f2+3+A448fb658480d2eaf514419da7910ca0364739d43@0000044c acbd18db4cc2f85cedef654fccc4a4d8+3 0:3:foo\n","want":1}
+{"finish":"s9","at":1000000000000}
+{"open":"s10","at":1000000000000,"do":"save","token":"alice","manifest":". acbd18db4cc2f85cedef654fccc4a4d8+3 1:3:foo\n","want":1}
+{"finish":"s10","at":1000000000000}
+"#,
+        text: r#"p1 d0 Absent
+p1 d0 Written 1000000000000
+p1 = Stored acbd18db4cc2f85cedef654fccc4a4d8+3+Ab8b72b6708e98beae946d0589334bd0d72b549d3@0000044c
+s1 table Saved 1 1 1f4b0bc7583c2a7f9102c395f4ffc5e3+45
+s1 = Saved zzzzz-4zz18-000000000000001 1 1f4b0bc7583c2a7f9102c395f4ffc5e3+45
+s2 table Unsigned 0 Expired 1100
+s2 = Unsigned 0 Expired 1100
+s3 table Unsigned 0 Invalid
+s3 = Unsigned 0 Invalid
+s4 table UnknownToken
+s4 = UnknownToken
+s5 table BadWant
+s5 = BadWant
+s6 table BadWant
+s6 = BadWant
+s7 table WrongHash 1f4b0bc7583c2a7f9102c395f4ffc5e3+45
+s7 = WrongHash 1f4b0bc7583c2a7f9102c395f4ffc5e3+45
+s8 table Saved 2 1 1f4b0bc7583c2a7f9102c395f4ffc5e3+45
+s8 = Saved zzzzz-4zz18-000000000000002 1 1f4b0bc7583c2a7f9102c395f4ffc5e3+45
+s9 table Unsigned 2 Missing
+s9 = Unsigned 2 Missing
+s10 table BadManifest 37 PastEnd
+s10 = BadManifest 37 PastEnd
+"#,
+    },
+    Case {
+        name: "a collection is read, updated and superseded",
+        script: r#"{"cluster":"zzzzz","ttl":100,"skew":1,"secret":"sesame","system_token":"sys","tokens":["alice","bob"],"devices":[{"capacity":1000}],"servers":[{"uuid":"zzzzz-bi6l4-000000000000000"}],"mounts":[{"uuid":"zzzzz-nyw5e-000000000000000","server":0,"device":0}],"versions":4,"trash_life":50}
+{"open":"p1","at":1000000000000,"do":"put","token":"alice","server":0,"bytes":"666f6f"}
+{"finish":"p1","at":1000000000000}
+{"open":"p2","at":1000000000000,"do":"put","token":"alice","server":0,"bytes":"626172"}
+{"finish":"p2","at":1000000000000}
+{"open":"s1","at":1000000000000,"do":"save","token":"alice","manifest":[". ",{"locator":"p1"}," 0:3:foo\n"],"want":1}
+{"finish":"s1","at":1000000000000}
+{"open":"r1","at":1050000000000,"do":"read","token":"alice","collection":"zzzzz-4zz18-000000000000001"}
+{"finish":"r1","at":1050000000000}
+{"open":"u1","at":1051000000000,"do":"update","token":"alice","collection":"zzzzz-4zz18-000000000000001","manifest":[". ",{"locator":"p2"}," 0:3:bar\n"],"want":1}
+{"finish":"u1","at":1051000000000}
+{"open":"r2","at":1051000000000,"do":"read","token":"alice","collection":"zzzzz-4zz18-000000000000001","version":1}
+{"finish":"r2","at":1051000000000}
+{"open":"s2","at":1150000000000,"do":"save","token":"alice","manifest":[{"manifest":"r1"}],"want":1}
+{"finish":"s2","at":1150000000000}
+"#,
+        text: r#"p1 d0 Absent
+p1 d0 Written 1000000000000
+p1 = Stored acbd18db4cc2f85cedef654fccc4a4d8+3+Ab8b72b6708e98beae946d0589334bd0d72b549d3@0000044c
+p2 d0 Absent
+p2 d0 Written 1000000000000
+p2 = Stored 37b51d194a7513e45b56f6524f2d51f2+3+A448fb658480d2eaf514419da7910ca0364739d43@0000044c
+s1 table Saved 1 1 1f4b0bc7583c2a7f9102c395f4ffc5e3+45
+s1 = Saved zzzzz-4zz18-000000000000001 1 1f4b0bc7583c2a7f9102c395f4ffc5e3+45
+r1 table Row 1 1 1150
+r1 = Row 1 1 - ". acbd18db4cc2f85cedef654fccc4a4d8+3+Ae85cf0da8ed0b4b0cbb32681313a628115ce44bc@0000047e 0:3:foo\n"
+u1 table Updated 1 2 fa7aeb5140e2848d39b416daeef4ffc5+45
+u1 = Updated zzzzz-4zz18-000000000000001 2 fa7aeb5140e2848d39b416daeef4ffc5+45
+r2 table NoSuch
+r2 = NoSuch
+s2 table Saved 2 1 1f4b0bc7583c2a7f9102c395f4ffc5e3+45
+s2 = Saved zzzzz-4zz18-000000000000002 1 1f4b0bc7583c2a7f9102c395f4ffc5e3+45
+"#,
+    },
+    Case {
+        name: "as many versions as are allowed",
+        script: r#"{"cluster":"zzzzz","ttl":100,"skew":1,"secret":"sesame","system_token":"sys","tokens":["alice","bob"],"devices":[{"capacity":1000}],"servers":[{"uuid":"zzzzz-bi6l4-000000000000000"}],"mounts":[{"uuid":"zzzzz-nyw5e-000000000000000","server":0,"device":0}],"versions":4,"trash_life":50}
+{"open":"s1","at":1000000000000,"do":"save","token":"alice","manifest":"","want":1}
+{"finish":"s1","at":1000000000000}
+{"open":"u2","at":1000000000000,"do":"update","token":"alice","collection":"zzzzz-4zz18-000000000000001","manifest":"","want":1}
+{"finish":"u2","at":1000000000000}
+{"open":"u3","at":1000000000000,"do":"update","token":"alice","collection":"zzzzz-4zz18-000000000000001","manifest":"","want":1}
+{"finish":"u3","at":1000000000000}
+{"open":"u4","at":1000000000000,"do":"update","token":"alice","collection":"zzzzz-4zz18-000000000000001","manifest":"","want":1}
+{"finish":"u4","at":1000000000000}
+{"open":"u5","at":1000000000000,"do":"update","token":"alice","collection":"zzzzz-4zz18-000000000000001","manifest":"","want":1}
+{"finish":"u5","at":1000000000000}
+{"open":"u6","at":1102000000000,"do":"update","token":"alice","collection":"zzzzz-4zz18-000000000000001","manifest":"","want":1}
+{"finish":"u6","at":1102000000000}
+{"open":"u7","at":1102000000001,"do":"update","token":"alice","collection":"zzzzz-4zz18-000000000000001","manifest":"","want":1}
+{"finish":"u7","at":1102000000001}
+{"open":"w1","at":1204000000002,"do":"sweep"}
+{"finish":"w1","at":1204000000002}
+"#,
+        text: r#"s1 table Saved 1 1 d41d8cd98f00b204e9800998ecf8427e+0
+s1 = Saved zzzzz-4zz18-000000000000001 1 d41d8cd98f00b204e9800998ecf8427e+0
+u2 table Updated 1 2 d41d8cd98f00b204e9800998ecf8427e+0
+u2 = Updated zzzzz-4zz18-000000000000001 2 d41d8cd98f00b204e9800998ecf8427e+0
+u3 table Updated 1 3 d41d8cd98f00b204e9800998ecf8427e+0
+u3 = Updated zzzzz-4zz18-000000000000001 3 d41d8cd98f00b204e9800998ecf8427e+0
+u4 table Updated 1 4 d41d8cd98f00b204e9800998ecf8427e+0
+u4 = Updated zzzzz-4zz18-000000000000001 4 d41d8cd98f00b204e9800998ecf8427e+0
+u5 table Updated 1 5 d41d8cd98f00b204e9800998ecf8427e+0
+u5 = Updated zzzzz-4zz18-000000000000001 5 d41d8cd98f00b204e9800998ecf8427e+0
+u6 table TooManyVersions 4
+u6 = TooManyVersions 4
+u7 table Updated 1 6 d41d8cd98f00b204e9800998ecf8427e+0
+u7 = Updated zzzzz-4zz18-000000000000001 6 d41d8cd98f00b204e9800998ecf8427e+0
+w1 table Swept 1 0
+w1 = Swept 1 0
+"#,
+    },
+    Case {
+        name: "a collection in the trash",
+        script: r#"{"cluster":"zzzzz","ttl":100,"skew":1,"secret":"sesame","system_token":"sys","tokens":["alice","bob"],"devices":[{"capacity":1000}],"servers":[{"uuid":"zzzzz-bi6l4-000000000000000"}],"mounts":[{"uuid":"zzzzz-nyw5e-000000000000000","server":0,"device":0}],"versions":4,"trash_life":50}
+{"open":"s1","at":1000000000000,"do":"save","token":"alice","manifest":"","want":1}
+{"finish":"s1","at":1000000000000}
+{"open":"t1","at":1000000000000,"do":"trash","token":"alice","collection":"zzzzz-4zz18-000000000000001","trash_at":1000000000000,"delete_at":1000000000000}
+{"finish":"t1","at":1000000000000}
+{"open":"u1","at":1001000000000,"do":"update","token":"alice","collection":"zzzzz-4zz18-000000000000001","manifest":"","want":1}
+{"finish":"u1","at":1001000000000}
+{"open":"r1","at":1001000000000,"do":"read","token":"alice","collection":"zzzzz-4zz18-000000000000001"}
+{"finish":"r1","at":1001000000000}
+{"open":"o1","at":1001000000000,"do":"restore","token":"alice","collection":"zzzzz-4zz18-000000000000001"}
+{"finish":"o1","at":1001000000000}
+{"open":"u2","at":1001000000000,"do":"update","token":"sys","collection":"zzzzz-4zz18-000000000000001","manifest":"","want":1,"preserve":true}
+{"finish":"u2","at":1001000000000}
+{"open":"r2","at":1001000000000,"do":"read","token":"bob","collection":"zzzzz-4zz18-000000000000001"}
+{"finish":"r2","at":1001000000000}
+{"open":"r3","at":1001000000000,"do":"read","token":"bob","collection":"x"}
+{"finish":"r3","at":1001000000000}
+{"open":"r4","at":1001000000000,"do":"read","token":"alice","collection":"yyyyy-4zz18-000000000000001"}
+{"finish":"r4","at":1001000000000}
+{"open":"t2","at":1001000000000,"do":"trash","token":"alice","collection":"zzzzz-4zz18-000000000000001","trash_at":1001000000000,"delete_at":0}
+{"finish":"t2","at":1001000000000}
+{"open":"w1","at":1103000000000,"do":"sweep"}
+{"finish":"w1","at":1103000000000}
+{"open":"w2","at":1103000000001,"do":"sweep"}
+{"finish":"w2","at":1103000000001}
+"#,
+        text: r#"s1 table Saved 1 1 d41d8cd98f00b204e9800998ecf8427e+0
+s1 = Saved zzzzz-4zz18-000000000000001 1 d41d8cd98f00b204e9800998ecf8427e+0
+t1 table TrashSet 1000000000000 1102000000000
+t1 = TrashSet 1000000000000 1102000000000
+u1 table InTrash 1000000000000
+u1 = InTrash 1000000000000
+r1 table Row 1 1 -
+r1 = Row 1 1 1000000000000 ""
+o1 table Restored
+o1 = Restored
+u2 table Updated 1 2 d41d8cd98f00b204e9800998ecf8427e+0
+u2 = Updated zzzzz-4zz18-000000000000001 2 d41d8cd98f00b204e9800998ecf8427e+0
+r2 table NotOwner
+r2 = NotOwner
+r3 table NoSuch
+r3 = NoSuch
+r4 table NoSuch
+r4 = NoSuch
+t2 table TrashSet 1001000000000 1103000000000
+t2 = TrashSet 1001000000000 1103000000000
+w1 table Swept 0 0
+w1 = Swept 0 0
+w2 table Swept 0 1
+w2 = Swept 0 1
 "#,
     },
 ];

@@ -1,5 +1,8 @@
 use super::*;
-use keep_event::{Command, DeviceAnswer, Entry, Opening, Outcome, PullItem, Task, TaskState};
+use keep_event::{
+    Command, DeviceAnswer, Entry, Opening, Outcome, PullItem, SaveRequest, TableAnswer, Task,
+    TaskState,
+};
 use keep_spec::{Bytes, Digest, Items};
 use std::alloc::{AllocError, Global};
 use std::collections::BTreeMap;
@@ -28,6 +31,16 @@ fn push_kind(
     push_part(text, kind)?;
     push_part(text, token.as_slice())?;
     push_part(text, &[b'0' + (server % 10) as u8])
+}
+
+fn push_request(text: &mut Vec<u8>, request: &SaveRequest) -> Result<(), AllocError> {
+    push_part(text, request.token.as_slice())?;
+    push_part(text, request.text.as_slice())?;
+    push_part(text, if request.want == 2 { b"two" } else { b"other" })?;
+    match &request.portable {
+        Some(portable) => push_part(text, portable.as_slice()),
+        None => Ok(()),
+    }
 }
 
 fn push_opening(text: &mut Vec<u8>, opening: &Opening) -> Result<(), AllocError> {
@@ -73,6 +86,46 @@ fn push_opening(text: &mut Vec<u8>, opening: &Opening) -> Result<(), AllocError>
             push_part(text, b"restart")?;
             push_part(text, &[b'0' + (device % 10) as u8])
         }
+        Opening::Save { request } => {
+            push_part(text, b"save")?;
+            push_request(text, request)
+        }
+        Opening::Update {
+            collection,
+            preserve,
+            request,
+        } => {
+            push_part(text, b"update")?;
+            push_part(text, collection.as_slice())?;
+            push_part(text, if *preserve { b"kept" } else { b"gone" })?;
+            push_request(text, request)
+        }
+        Opening::Read {
+            token,
+            collection,
+            version,
+        } => {
+            push_part(text, b"read")?;
+            push_part(text, token.as_slice())?;
+            push_part(text, collection.as_slice())?;
+            push_part(text, if version.is_some() { b"old" } else { b"new" })
+        }
+        Opening::Trash {
+            token,
+            collection,
+            trash_at: _,
+            delete_at: _,
+        } => {
+            push_part(text, b"trash")?;
+            push_part(text, token.as_slice())?;
+            push_part(text, collection.as_slice())
+        }
+        Opening::Restore { token, collection } => {
+            push_part(text, b"restore")?;
+            push_part(text, token.as_slice())?;
+            push_part(text, collection.as_slice())
+        }
+        Opening::Sweep => push_part(text, b"sweep"),
     }
 }
 
@@ -106,6 +159,8 @@ fn some_names(alloc: Global) -> Result<BTreeMap<Bytes, TaskState>, Fail> {
     names.insert(bytes(alloc, b"open")?, TaskState::Open { task, actor: 0 })?;
     let locator = bytes(alloc, b"d41d8cd98f00b204e9800998ecf8427e+0")?;
     names.insert(bytes(alloc, b"kept")?, TaskState::Located { locator })?;
+    let text = bytes(alloc, b". x+1 0:1:a\n")?;
+    names.insert(bytes(alloc, b"row")?, TaskState::Row { text })?;
     names.insert(bytes(alloc, b"ended")?, TaskState::Ended)?;
     Ok(names)
 }
@@ -147,6 +202,31 @@ fn lines_that_are_commands(rt: HostRuntime) -> Result<(), Fail> {
             r#"{"open":"a","at":5,"do":"restart","device":0}"#,
             "a 5 restart 0 ",
         ),
+        (
+            r#"{"open":"a","at":5,"do":"save","token":"t","manifest":"m","want":2,"portable":"p"}"#,
+            "a 5 save t m two p ",
+        ),
+        (
+            r#"{"open":"a","at":5,"do":"save","token":"t","manifest":[". ",{"locator":"kept"}," 0:0:a\n",{"manifest":"row"}],"want":1000000000000000000}"#,
+            "a 5 save t . d41d8cd98f00b204e9800998ecf8427e+0 0:0:a\n. x+1 0:1:a\n other ",
+        ),
+        (
+            r#"{"open":"a","at":5,"do":"update","token":"t","collection":"c","manifest":[],"want":0,"preserve":true}"#,
+            "a 5 update c kept t  other ",
+        ),
+        (
+            r#"{"open":"a","at":5,"do":"read","token":"t","collection":"c","version":18446744073709551615}"#,
+            "a 5 read t c old ",
+        ),
+        (
+            r#"{"open":"a","at":5,"do":"trash","token":"t","collection":"c","trash_at":0,"delete_at":3999999999999999999}"#,
+            "a 5 trash t c ",
+        ),
+        (
+            r#"{"open":"a","at":5,"do":"restore","token":"t","collection":"c"}"#,
+            "a 5 restore t c ",
+        ),
+        (r#"{"open":"a","at":5,"do":"sweep"}"#, "a 5 sweep "),
         (r#"{"finish":"open","at":7}"#, "open 7 finish "),
     ];
     for (line, want) in rows {
@@ -208,6 +288,19 @@ fn lines_that_are_none(rt: HostRuntime) -> Result<(), Fail> {
         r#"{"open":"a","at":5,"do":"untrash","token":"t","server":0,"digest":"900150983CD24fb0d6963f7d28e17f72"}"#,
         r#"{"open":"a","at":5,"do":"untrash","token":"t","server":0}"#,
         r#"{"open":"a","at":5,"do":"restart","device":1}"#,
+        r#"{"open":"a","at":5,"do":"save","token":"t","manifest":"m"}"#,
+        r#"{"open":"a","at":5,"do":"save","token":"t","manifest":"m","want":1000000000000000001}"#,
+        r#"{"open":"a","at":5,"do":"save","token":"t","manifest":"m","want":2,"portable":null}"#,
+        r#"{"open":"a","at":5,"do":"save","token":"t","manifest":"m","want":2,"preserve":true}"#,
+        r#"{"open":"a","at":5,"do":"save","token":"t","manifest":{"manifest":"row"},"want":2}"#,
+        r#"{"open":"a","at":5,"do":"save","token":"t","manifest":[{"manifest":"kept"}],"want":2}"#,
+        r#"{"open":"a","at":5,"do":"save","token":"t","manifest":[["m"]],"want":2}"#,
+        r#"{"open":"a","at":5,"do":"update","token":"t","manifest":"m","want":2}"#,
+        r#"{"open":"a","at":5,"do":"update","token":"t","collection":"c","manifest":"m","want":2,"preserve":1}"#,
+        r#"{"open":"a","at":5,"do":"read","token":"t","collection":"c","version":-1}"#,
+        r#"{"open":"a","at":5,"do":"trash","token":"t","collection":"c","trash_at":4000000000000000000,"delete_at":0}"#,
+        r#"{"open":"a","at":5,"do":"restore","token":"t"}"#,
+        r#"{"open":"a","at":5,"do":"sweep","token":"t"}"#,
         r#"{"open":"a","at":5,"do":"restart","device":0,"server":0}"#,
     ];
     for line in rows {
