@@ -20,7 +20,7 @@ element (x ∷ xs) zero lt = (x, λ d. refl)
 element (x ∷ xs) (suc i) lt = element xs i (omega arith)
 
 module _ {X : Type 0} (n : Name) where
-  step : (e : Name × X) (es : List (Name × X)) (r : Ordering) → name_cmp n e.0 ≡ r → cut n (e ∷ es) ≡ match_ordering r (record { front = []; at = None; back = e ∷ es }) (record { front = []; at = Some e; back = es }) (onto (e ∷ []) (cut n es))
+  pub step : (e : Name × X) (es : List (Name × X)) (r : Ordering) → name_cmp n e.0 ≡ r → cut n (e ∷ es) ≡ match_ordering r (record { front = []; at = None; back = e ∷ es }) (record { front = []; at = Some e; back = es }) (onto (e ∷ []) (cut n es))
   step e es r h = ap (λ o. match_ordering o (record { front = []; at = None; back = e ∷ es }) (record { front = []; at = Some e; back = es }) (onto (e ∷ []) (cut n es))) h
 
   -- entries below the name are passed
