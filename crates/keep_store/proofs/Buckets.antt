@@ -276,6 +276,7 @@ from-start {X = X} after k start bs given is g f lt e =
     drop-nil zero xs e = refl
     drop-nil (suc i) [] e = refl
     drop-nil (suc i) (x ∷ xs) e = cc e
+
     start-at : (bs ≡ []) ⊎ (length bs ≡ 256) → drop start bs ≡ drop k bs
     start-at h = elim h [ inl n ↦ drop-nil start bs n ∙ sym (drop-nil k bs n) | inr n ↦ ap (λ j. drop j bs) (let same : start ≡ k = omega arith in same) ]
 

@@ -1,8 +1,7 @@
-use Rattle.std.proofs.Common.{rules, arith, sym, ◌∙◌, ap, take, map, ◌≡◌, ◌++◌, ◌∷◌, [], ◌≤◌, length, length-append, append_assoc}
+use Rattle.std.proofs.Common.{arith, sym, ◌∙◌, ap, take, map, ◌≡◌, ◌++◌, ◌∷◌, [], length-append, append_assoc}
 use Rattle.std.proofs.lemmas.Grind.{common_steps}
 use Rattle.std.specs.Slice.Iter.{iter_rest}
-use Rattle.keep_event.specs.Store.{held_of, above}
-use Rattle.keep_store.specs.Names.{named}
+use Rattle.keep_event.specs.Store.{held_of}
 use Rattle.keep_store.proofs.Listing.{all-listed, full-listed}
 use Rattle.keep_store.proofs.memory.list_more.Goals as goal
 

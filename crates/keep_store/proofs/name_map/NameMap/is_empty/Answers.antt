@@ -1,6 +1,4 @@
-use Rattle.std.proofs.Common.{◌≡◌, [], ◌++◌, ◌∙◌, sym, ap, drop, ◌+◌}
-use Rattle.std.proofs.lemmas.List.{at_drop_more}
-use Rattle.keep_store.specs.Buckets.{entries_of}
+use Rattle.std.proofs.Common.{◌∙◌}
 use Rattle.keep_store.proofs.Buckets.{nothing-first}
 use Rattle.keep_store.proofs.name_map.NameMap.is_empty.Goals as goal
 

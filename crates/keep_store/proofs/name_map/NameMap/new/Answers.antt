@@ -1,5 +1,4 @@
-use Rattle.std.proofs.Common.{rules, ◌≡◌, [], subst, sym, refl, inl}
-use Rattle.keep_store.specs.Buckets.{AreBuckets}
+use Rattle.std.proofs.Common.{[], refl, inl}
 use Rattle.keep_store.proofs.Order.{nothing-ascends}
 use Rattle.keep_store.proofs.name_map.NameMap.new.Goals as goal
 

@@ -1,6 +1,5 @@
-use Rattle.std.proofs.Common.{◌≡◌, ◌<◌, length, arith, refl, sym, subst, Some, rules}
-use Rattle.std.proofs.lemmas.Grind.{common_steps}
-use Rattle.keep_store.proofs.Buckets.{put-bucket, put-buckets, room-within, read-at}
+use Rattle.std.proofs.Common.{◌<◌, length, refl, rules}
+use Rattle.keep_store.proofs.Buckets.{put-bucket, put-buckets, read-at}
 use Rattle.keep_store.proofs.name_map.NameMap.put_in_room.Goals as goal
 
 pub invariant_of-self : goal.invariant_of-self

@@ -1,6 +1,5 @@
-use Rattle.std.proofs.Common.{◌≡◌, ◌<◌, ◌∙◌, length, arith, refl, sym, ap, Some, rules, inl, inr, map, ℕ}
+use Rattle.std.proofs.Common.{◌<◌, ◌∙◌, length, refl, ap, rules, inl, inr}
 use Rattle.std.specs.Prelude.{is_some}
-use Rattle.keep_store.specs.Buckets.{Bucketed, room_for}
 use Rattle.keep_store.proofs.Buckets.{find-bucket, without-bucket, without-buckets, room-set, read-at}
 use Rattle.keep_store.proofs.name_map.NameMap.remove.Goals as goal
 

@@ -1,4 +1,4 @@
-use Rattle.std.proofs.Common.{◌≡◌, ◌<◌, ◌∙◌, length, refl, rules, inl}
+use Rattle.std.proofs.Common.{◌<◌, ◌∙◌, length, refl, rules, inl}
 use Rattle.keep_store.proofs.Buckets.{same-bucket, same-buckets, room-set, read-at, on-ok}
 use Rattle.keep_store.proofs.name_map.NameMap.reserve_for.Goals as goal
 

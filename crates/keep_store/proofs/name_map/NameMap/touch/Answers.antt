@@ -1,4 +1,4 @@
-use Rattle.std.proofs.Common.{◌≡◌, ◌<◌, ◌∙◌, length, arith, refl, sym, ap, Some, rules}
+use Rattle.std.proofs.Common.{◌<◌, ◌∙◌, length, refl, ap, rules}
 use Rattle.std.specs.Prelude.{is_some}
 use Rattle.keep_store.proofs.Buckets.{find-bucket, change-bucket, change-buckets, read-at}
 use Rattle.keep_store.proofs.name_map.NameMap.touch.Goals as goal
