@@ -1,6 +1,6 @@
 -- A list cut at a name, from the place that a search finds.
-use Rattle.std.proofs.Common.{◌≡◌, ℕ, zero, suc, ◌+◌, ◌<◌, ◌≤◌, List, [], ◌∷◌, ◌++◌, length, take, drop, get_or, None, Some, refl, sym, ◌∙◌, ap, arith, append-nil, add-one, Option, Result, Ok, Err, option_map, inl, inr}
-use Rattle.std.specs.List.{insert, remove, slice_set}
+use Rattle.std.proofs.Common.{◌≡◌, ℕ, zero, suc, ◌+◌, ◌<◌, ◌≤◌, List, [], ◌∷◌, ◌++◌, length, map, take, drop, get_or, None, Some, refl, sym, ◌∙◌, ap, arith, append-nil, add-one, Option, Result, Ok, Err, option_map, inl, inr}
+use Rattle.std.specs.List.{AllByRecursion, insert, remove, slice_set}
 use Rattle.std.specs.List.Sorted.{IsSearchInRange, IsBinarySearchResult}
 use Rattle.std.specs.declared.cmp.Ordering.{Ordering}
 use Rattle.std.specs.declared.cmp.Ordering.TheVariants.{Less, Equal, Greater}
@@ -11,7 +11,7 @@ use Rattle.std.proofs.lemmas.Option.{slice_get_read}
 use Rattle.keep_store.specs.Names.{IsPlace}
 use Rattle.keep_event.specs.Store.{Cut, cut, onto, name_cmp, find, put, without, change, IsAscending}
 use Rattle.keep_event.specs.declared.names.Name.{Name}
-use Rattle.keep_store.proofs.Order.{flip, past-equal, ascending-at, comparisons-rise}
+use Rattle.keep_store.proofs.Order.{flip, past-equal, ascending-at, comparisons-rise, head-below, tail-ascends}
 
 -- the element at a place, whatever the default is
 pub element : {A : Type 0} (xs : List A) (i : ℕ) → i < length xs → (x : A) × ((d : A) → get_or xs i d ≡ x)
@@ -20,7 +20,7 @@ element (x ∷ xs) zero lt = (x, λ d. refl)
 element (x ∷ xs) (suc i) lt = element xs i (omega arith)
 
 module _ {X : Type 0} (n : Name) where
-  step : (e : Name × X) (es : List (Name × X)) (r : Ordering) → name_cmp n e.0 ≡ r → cut n (e ∷ es) ≡ match_ordering r (record { front = []; at = None; back = e ∷ es }) (record { front = []; at = Some e; back = es }) (onto (e ∷ []) (cut n es))
+  pub step : (e : Name × X) (es : List (Name × X)) (r : Ordering) → name_cmp n e.0 ≡ r → cut n (e ∷ es) ≡ match_ordering r (record { front = []; at = None; back = e ∷ es }) (record { front = []; at = Some e; back = es }) (onto (e ∷ []) (cut n es))
   step e es r h = ap (λ o. match_ordering o (record { front = []; at = None; back = e ∷ es }) (record { front = []; at = Some e; back = es }) (onto (e ∷ []) (cut n es))) h
 
   -- entries below the name are passed
@@ -103,3 +103,14 @@ no-map f (Some x) e = cc e
 
 pub without-absent : {X : Type 0} (n : Name) (es : List (Name × X)) → find n es ≡ None → without n es ≡ es
 without-absent {X = X} n es none = cut-without n es (no-map (λ (e : Name × X). e.1) (cut n es).at none)
+
+-- a name above all others goes behind them
+all-mid : {X : Type 0} (P : Name → Type 0) (es ys : List (Name × X)) (n : Name) (x : X) → AllByRecursion P (map (λ e. e.0) (es ++ (n, x) ∷ ys)) → P n
+all-mid P [] ys n x h = h.0
+all-mid P (e ∷ es) ys n x h = all-mid P es ys n x h.1
+
+pub put-next : {X : Type 0} (es ys : List (Name × X)) (n : Name) (x : X) → IsAscending (es ++ (n, x) ∷ ys) → put n x es ≡ es ++ (n, x) ∷ []
+put-next [] ys n x s = refl
+put-next {X = X} (e ∷ es) ys n x s =
+    let below : name_cmp e.0 n ≡ Less = all-mid (λ m. name_cmp e.0 m ≡ Less) es ys n x (head-below e (es ++ (n, x) ∷ ys) s) in
+    ap (λ (c : Cut X). c.front ++ (n, x) ∷ c.back) (step n e es Greater (flip e.0 n Less below)) ∙ ap (λ v. e ∷ v) (put-next es ys n x (tail-ascends e (es ++ (n, x) ∷ ys) s))

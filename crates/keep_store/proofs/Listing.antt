@@ -1,5 +1,6 @@
 -- What a page of names holds.
-use Rattle.std.proofs.Common.{◌≡◌, ℕ, zero, suc, ◌-◌, ◌<◌, List, [], ◌∷◌, ◌++◌, length, map, take, Option, None, Some, refl, sym, ◌∙◌, ap, arith, append_assoc, length-append}
+use Rattle.std.proofs.Common.{◌≡◌, ℕ, zero, suc, ◌-◌, ◌<◌, ◌≤◌, append-nil, take_all, List, [], ◌∷◌, ◌++◌, length, map, take, Option, None, Some, refl, sym, ◌∙◌, ap, arith, append_assoc, length-append}
+use Rattle.std.proofs.lemmas.List.{map-append}
 use Rattle.std.specs.declared.cmp.Ordering.{Ordering}
 use Rattle.std.specs.declared.cmp.Ordering.TheVariants.{Less, Equal, Greater}
 use Rattle.std.specs.Ordering.{match_ordering}
@@ -49,3 +50,31 @@ taken-ascends (suc k) (e ∷ es) s = (all-taken (λ m. name_cmp e.0 m ≡ Less) 
 
 pub page-ascends : (after : Option Name) (k : ℕ) (es : List (Name × Stored)) → IsAscending es → AreAscending (map (λ h. h.name) (take k (map held_of (above after es))))
 page-ascends after k es s = taken-ascends k (above after es) (above-ascends after es s)
+
+-- nothing is left to list
+pub all-listed : {A B : Type 0} (f : A → B) (limit : ℕ) (out : List B) (xs : List A) → length out ≤ limit → length xs ≡ 0 → take limit (out ++ map f xs) ≡ out
+all-listed f limit out [] few e = ap (take limit) (append-nil out) ∙ take_all limit out few
+all-listed f limit out (x ∷ xs) few e = absurd (omega arith)
+
+-- as much is listed as was asked for
+pub full-listed : {A : Type 0} (limit : ℕ) (out xs : List A) → length out ≡ limit → take limit (out ++ xs) ≡ out
+full-listed limit [] xs e = ap (λ k. take k xs) (sym e)
+full-listed zero (y ∷ out) xs e = absurd (omega arith)
+full-listed (suc k) (y ∷ out) xs e = ap (λ v. y ∷ v) (full-listed k out xs (omega arith))
+
+-- what is left out is left out of more
+pub take-again : {A : Type 0} (k : ℕ) (xs ys : List A) → take k (take k xs ++ ys) ≡ take k (xs ++ ys)
+take-again zero xs ys = refl
+take-again (suc k) [] ys = refl
+take-again (suc k) (x ∷ xs) ys = ap (λ v. x ∷ v) (take-again k xs ys)
+
+-- one bucket more is listed
+pub list-step : {A B : Type 0} (f : A → B) (k : ℕ) (out new : List B) (xs ys : List A) → new ≡ take k (out ++ map f xs) → take k (new ++ map f ys) ≡ take k (out ++ map f (xs ++ ys))
+list-step f k out new xs ys e =
+    ap (λ v. take k (v ++ map f ys)) e ∙ take-again k (out ++ map f xs) (map f ys)
+    ∙ ap (take k) (append_assoc out (map f xs) (map f ys) ∙ ap (λ v. out ++ v) (sym (map-append f xs ys)))
+
+pub take-few : {A : Type 0} (k : ℕ) (xs : List A) → length (take k xs) ≤ k
+take-few zero xs = omega arith
+take-few (suc k) [] = omega arith
+take-few (suc k) (x ∷ xs) = let h = take-few k xs in omega (arith, h)

@@ -1,17 +1,18 @@
 // A store in memory, with a list of the calls that are to fail.
-ghost use Rattle.std.specs.Prelude.{◌≡◌, ℕ, List, Option, Some, None, IfSome, IfOk, OnOk, OnErr, [], option_map, take, map};
-ghost use Rattle.keep_event.specs.Store.{find, put, above, held_of, size_of, AreAscending, stored};
-ghost use Rattle.keep_store.specs.Names.{IsCounted};
+ghost use Rattle.std.specs.Prelude.{◌≡◌, ◌≤◌, ◌++◌, ℕ, List, Option, Some, None, IfSome, IfOk, OnOk, OnErr, [], option_map, option_copied, take, map, length};
+ghost use Rattle.keep_event.specs.Store.{find, put, above, held_of, size_of, AreAscending, IsAscending, stored};
+ghost use Rattle.keep_spec.specs.Causes.{Rose};
+ghost use Rattle.keep_store.specs.Names.{IsCounted, named};
 
-use crate::{Failed, NameList, Store, StoreError};
+use crate::{Failed, NameList, NameMap, Store, StoreError};
 use keep_event::{Held, Name, Sized, Stored};
 use keep_spec::{Bytes, NoMemory};
 use std::alloc::Global;
 
-/// A store in memory.
+/// A store in memory. A rename to a name whose digest begins with another byte may want memory; where it isn't given, the call has failed, and is counted so.
 #[derive(Drop)]
 pub struct MemoryStore {
-    names: NameList<Stored>,
+    names: NameMap<Stored>,
     round: u64,
     failing: Vec<u64>,
     calls: u64,
@@ -27,7 +28,7 @@ impl MemoryStore {
         ensures faults { ⟦<MemoryStore as Store>⟧.faults result ≡ 0 }
     {
         MemoryStore {
-            names: NameList::new(alloc),
+            names: NameMap::new(alloc),
             round: 0,
             failing,
             calls: 0,
@@ -43,10 +44,17 @@ impl MemoryStore {
     {
         self.calls = self.calls.saturating_add(1);
         if self.failing.contains(&self.calls) {
-            self.faults = self.faults.saturating_add(1);
+            self.count_fault();
             return true;
         }
         false
+    }
+
+    fn count_fault(&mut self)
+        ensures same { (self.new.names.entries ≡ self.old.names.entries) × (self.new.round ≡ self.old.round) }
+        ensures cause { (self.old.faults ≤ self.new.faults) × Rose self.old.faults self.new.faults }
+    {
+        self.faults = self.faults.saturating_add(1);
     }
 }
 
@@ -61,7 +69,7 @@ impl Store for MemoryStore {
         if self.is_failing() {
             return Err(StoreError::Failed);
         }
-        match found(self.alloc, &self.names, name) {
+        match found(self.alloc, self.names.get(name)) {
             Ok(stored) => Ok(stored),
             Err(NoMemory) => Err(StoreError::NoMemory),
         }
@@ -71,10 +79,13 @@ impl Store for MemoryStore {
         if self.is_failing() {
             return Err(StoreError::Failed);
         }
-        match kept(self.alloc, &mut self.names, name, mtime, bytes) {
-            Ok(()) => Ok(()),
-            Err(NoMemory) => Err(StoreError::NoMemory),
+        let Ok(stored) = kept(self.alloc, mtime, bytes) else {
+            return Err(StoreError::NoMemory);
+        };
+        if self.names.put(name, stored).is_err() {
+            return Err(StoreError::NoMemory);
         }
+        Ok(())
     }
 
     fn names_from(&mut self, after: Option<Name>, limit: usize) -> Result<Vec<Held>, StoreError> {
@@ -91,7 +102,7 @@ impl Store for MemoryStore {
         if self.is_failing() {
             return Err(Failed);
         }
-        Ok(sized(&self.names, name))
+        Ok(sized(self.names.get(name)))
     }
 
     fn touch(&mut self, name: &Name, mtime: u64) -> Result<bool, Failed> {
@@ -103,6 +114,10 @@ impl Store for MemoryStore {
 
     fn rename(&mut self, from: &Name, to: &Name, mtime: u64) -> Result<bool, Failed> {
         if self.is_failing() {
+            return Err(Failed);
+        }
+        if self.names.reserve_move(from, to).is_err() {
+            self.count_fault();
             return Err(Failed);
         }
         Ok(self.names.rename(from, to, mtime))
@@ -131,15 +146,11 @@ impl Store for MemoryStore {
     }
 }
 
-// A copy of what the name has.
-pub(crate) fn found(
-    alloc: Global,
-    names: &NameList<Stored>,
-    name: &Name,
-) -> Result<Option<Stored>, NoMemory>
-    ensures { IfOk result (λ o. o ≡ find name.now names.now.entries) }
+// A copy of what is kept.
+pub(crate) fn found(alloc: Global, stored: Option<&Stored>) -> Result<Option<Stored>, NoMemory>
+    ensures { IfOk result (λ o. o ≡ option_copied stored.entry) }
 {
-    match names.get(name) {
+    match stored {
         Some(stored) => Ok(Some(Stored {
             mtime: stored.mtime,
             bytes: stored.bytes.copied(alloc)?,
@@ -148,24 +159,17 @@ pub(crate) fn found(
     }
 }
 
-// Gives the name a copy of the bytes.
-pub(crate) fn kept(
-    alloc: Global,
-    names: &mut NameList<Stored>,
-    name: &Name,
-    mtime: u64,
-    bytes: &[u8],
-) -> Result<(), NoMemory>
-    ensures ok { OnOk result (names.new.entries ≡ put name.now (stored mtime bytes.now) names.old.entries) }
-    ensures err { OnErr result (names.new.entries ≡ names.old.entries) }
+// A copy of the bytes, with their time.
+pub(crate) fn kept(alloc: Global, mtime: u64, bytes: &[u8]) -> Result<Stored, NoMemory>
+    ensures { IfOk result (λ s. s ≡ stored mtime bytes.now) }
 {
     let bytes = Bytes::of(Vec::from_slice(alloc, bytes)?);
-    names.put(name, Stored { mtime, bytes })
+    Ok(Stored { mtime, bytes })
 }
 
-pub(crate) fn listed(
+fn listed(
     alloc: Global,
-    names: &NameList<Stored>,
+    names: &NameMap<Stored>,
     after: Option<Name>,
     limit: usize,
 ) -> Result<Vec<Held>, NoMemory>
@@ -173,7 +177,24 @@ pub(crate) fn listed(
     ensures ascending { IfOk result (λ v. AreAscending (map (λ h. h.name) v.items)) }
 {
     let mut out = Vec::new(alloc);
-    for item in names.above(after.as_ref()) {
+    for bucket in names.above(after.as_ref()) {
+        list_more(&mut out, bucket, after.as_ref(), limit)?;
+    }
+    Ok(out)
+}
+
+// Lists the names above a name, up to the limit.
+pub(crate) fn list_more(
+    out: &mut Vec<Held>,
+    names: &NameList<Stored>,
+    after: Option<&Name>,
+    limit: usize,
+) -> Result<(), NoMemory>
+    requires { length out.old.items ≤ limit }
+    ensures listed { OnOk result (out.new.items ≡ take limit (out.old.items ++ map held_of (above (named after.entry) names.now.entries))) }
+    ensures ascending { IsAscending names.now.entries }
+{
+    for item in names.above(after) {
         if out.len() == limit {
             break;
         }
@@ -186,13 +207,13 @@ pub(crate) fn listed(
             return Err(NoMemory);
         }
     }
-    Ok(out)
+    Ok(())
 }
 
-pub(crate) fn sized(names: &NameList<Stored>, name: &Name) -> Option<Sized>
-    ensures { result ≡ option_map size_of (find name.now names.now.entries) }
+pub(crate) fn sized(stored: Option<&Stored>) -> Option<Sized>
+    ensures { result ≡ option_map size_of (option_copied stored.entry) }
 {
-    let stored = names.get(name)?;
+    let stored = stored?;
     Some(Sized {
         mtime: stored.mtime,
         size: stored.bytes.len() as u64,

@@ -40,7 +40,7 @@ impl Timed for Sized {
 }
 
 /// Names in their order, each once and with what it has. It is seen as the list of these, with the number of names for which it has room.
-/// A look-up halves the list at each step, and a name that comes or goes moves those behind it.
+/// A look-up halves the list at each step, and a name that comes or goes moves those behind it; so where there may be many, take a `NameMap`, whose parts these are.
 #[derive(Drop)]
 pub struct NameList<X> {
     items: Vec<(Name, X)>,
@@ -66,13 +66,6 @@ impl<X> NameList<X> {
         NameList {
             items: Vec::new(alloc),
         }
-    }
-
-    pub fn of_ascending(items: Vec<(Name, X)>) -> NameList<X>
-        requires { IsAscending items.items }
-        ensures { result.entries ≡ items.items }
-    {
-        NameList { items }
     }
 
     pub fn is_empty(&self) -> bool

@@ -1,13 +1,14 @@
 // A store in memory that never fails.
-ghost use Rattle.std.specs.Prelude.{◌≡◌, ℕ, Some, []};
+ghost use Rattle.std.specs.Prelude.{◌≡◌, ℕ, Some, [], IfOk, take, map};
+ghost use Rattle.keep_event.specs.Store.{above, held_of, AreAscending};
 
-use crate::memory::{found, kept, listed, sized};
+use crate::memory::{found, kept, list_more, sized};
 use crate::{Failed, NameList, Store, StoreError};
 use keep_event::{Held, Name, Sized, Stored};
 use keep_spec::NoMemory;
 use std::alloc::Global;
 
-/// A store in memory that never fails.
+/// A store in memory that never fails: each of its names can take any other without memory. So it keeps all in one list, and a new name moves those behind it.
 #[derive(Drop)]
 pub struct SureStore {
     names: NameList<Stored>,
@@ -37,17 +38,20 @@ impl Store for SureStore {
     ghost faults = { λ s. 0 };
 
     fn get(&mut self, name: &Name) -> Result<Option<Stored>, StoreError> {
-        match found(self.alloc, &self.names, name) {
+        match found(self.alloc, self.names.get(name)) {
             Ok(stored) => Ok(stored),
             Err(NoMemory) => Err(StoreError::NoMemory),
         }
     }
 
     fn put(&mut self, name: &Name, mtime: u64, bytes: &[u8]) -> Result<(), StoreError> {
-        match kept(self.alloc, &mut self.names, name, mtime, bytes) {
-            Ok(()) => Ok(()),
-            Err(NoMemory) => Err(StoreError::NoMemory),
+        let Ok(stored) = kept(self.alloc, mtime, bytes) else {
+            return Err(StoreError::NoMemory);
+        };
+        if self.names.put(name, stored).is_err() {
+            return Err(StoreError::NoMemory);
         }
+        Ok(())
     }
 
     fn names_from(&mut self, after: Option<Name>, limit: usize) -> Result<Vec<Held>, StoreError> {
@@ -58,7 +62,7 @@ impl Store for SureStore {
     }
 
     fn stat(&mut self, name: &Name) -> Result<Option<Sized>, Failed> {
-        Ok(sized(&self.names, name))
+        Ok(sized(self.names.get(name)))
     }
 
     fn touch(&mut self, name: &Name, mtime: u64) -> Result<bool, Failed> {
@@ -81,4 +85,18 @@ impl Store for SureStore {
         self.round = round;
         Ok(())
     }
+}
+
+fn listed(
+    alloc: Global,
+    names: &NameList<Stored>,
+    after: Option<Name>,
+    limit: usize,
+) -> Result<Vec<Held>, NoMemory>
+    ensures value { IfOk result (λ v. v.items ≡ take limit (map held_of (above after names.now.entries))) }
+    ensures ascending { IfOk result (λ v. AreAscending (map (λ h. h.name) v.items)) }
+{
+    let mut out = Vec::new(alloc);
+    list_more(&mut out, names, after.as_ref(), limit)?;
+    Ok(out)
 }

@@ -1,5 +1,5 @@
 // What no clause says: that calls succeed with ample memory, at each store, and which calls fail.
-use crate::{MemoryStore, NameList, Store, StoreError, SureStore};
+use crate::{MemoryStore, NameList, NameMap, Store, StoreError, SureStore};
 use keep_event::{Name, Sized};
 use keep_spec::Digest;
 use std::process::Abort;
@@ -37,6 +37,11 @@ fn exercise<S: Store>(rt: &impl Abort, store: &mut S) -> Result<(), Fail> {
     }
     assert!(rt; store.remove(&copy)?);
     assert_eq!(rt; store.stat(&copy)?, None);
+    assert!(rt; store.rename(&low, &name_of(3, None), 8)?);
+    assert_eq!(rt;
+        store.stat(&name_of(3, None))?,
+        Some(Sized { mtime: 8, size: 3 })
+    );
     store.set_note(3)?;
     assert_eq!(rt; store.note()?, 3);
     Ok(())
@@ -83,6 +88,39 @@ fn names_are_found_by_their_digits(rt: HostRuntime) -> Result<(), Fail> {
     assert_eq!(rt; names.of_digest(&Digest::of_md5([0xaf; 16])).count(), 2);
     assert_eq!(rt; names.get(&name_of(0xb7, None)), Some(&0xb7));
     assert!(rt; names.remove(&name_of(0xb7, None)).is_some());
+    assert!(rt; !names.is_empty());
+    Ok(())
+}
+
+// How many entries the buckets have above a name.
+fn count_above(names: &NameMap<u8>, after: &Name) -> usize {
+    let mut count: usize = 0;
+    for bucket in names.above(Some(after)) {
+        count = count.saturating_add(bucket.above(Some(after)).count());
+    }
+    count
+}
+
+#[test]
+fn names_in_buckets_are_found(rt: HostRuntime) -> Result<(), Fail> {
+    let mut names = NameMap::new(rt.alloc());
+    assert!(rt; names.is_empty());
+    assert!(rt; names.of_digest(&Digest::of_md5([0; 16])).is_none());
+    for byte in [0xff, 0xa3, 0x00, 0x7f] {
+        names.put(&name_of(byte, None), byte)?;
+    }
+    names.put(&name_of(0x7f, Some(7)), 1)?;
+    assert_eq!(rt; names.get(&name_of(0x7f, Some(7))), Some(&1));
+    assert_eq!(rt; names.get(&name_of(0x7e, None)), None);
+    for (byte, count) in [(0x00, 4), (0x7f, 3), (0x80, 2), (0xff, 0)] {
+        assert_eq!(rt;
+            count_above(&names, &name_of(byte, None)),
+            count,
+            "above {byte}"
+        );
+    }
+    assert_eq!(rt; names.remove(&name_of(0xff, None)), Some(0xff));
+    assert_eq!(rt; names.remove(&name_of(0xff, None)), None);
     assert!(rt; !names.is_empty());
     Ok(())
 }

@@ -1,16 +1,19 @@
 -- What a page is picked from.
-use Rattle.std.proofs.Common.{◌≡◌, ℕ, zero, suc, ◌/◌, ◌%◌, List, [], ◌∷◌, length, take, Bool, true, false, cond, Option, Some, refl, sym, ◌∙◌, ap}
-use Rattle.std.specs.Prelude.{◌&&◌, slice_index, is_none}
+use Rattle.std.proofs.Common.{◌≡◌, ℕ, zero, suc, ◌/◌, ◌%◌, List, [], ◌∷◌, ◌++◌, length, map, take, Bool, true, false, cond, Option, Some, None, refl, sym, ◌∙◌, ap, subst, arith, append_assoc, append-nil}
+use Rattle.std.specs.Prelude.{◌&&◌, slice_index, is_none, is_some, IfSome}
 use Rattle.std.specs.declared.cmp.Ordering.{Ordering}
 use Rattle.std.specs.declared.cmp.Ordering.TheVariants.{Equal}
 use Rattle.std.specs.Ordering.{ordering_then, is_eq}
-use Rattle.std.specs.List.{filter}
+use Rattle.std.specs.List.{filter, last_or}
+use Rattle.std.proofs.lemmas.List.{map-append}
+use Rattle.std.proofs.lemmas.List.Elements.{filter-append}
 use Rattle.std.specs.Str.{bytes_eq}
 use Rattle.std.proofs.lemmas.Slice.Eq.{bytes_eq-Decides}
 use Rattle.std.proofs.lemmas.Cmp.{nat_cmp_total, tied_itself}
 use Rattle.hex.specs.Hex.{encode_with, encode_lower, lower_digits}
 use Rattle.keep_event.specs.Device as machine
 use Rattle.keep_event.specs.declared.names.Name.{Name}
+use Rattle.keep_event.specs.declared.names.Sized.{Sized}
 use Rattle.keep_store.specs.Digits.{nibbles, order_of, order_then, digit_value, is_within}
 
 -- both tests, one after the other
@@ -82,3 +85,36 @@ paged-begins prefix n false c h = h
 
 pub paged-within : (prefix : List ℕ) (n : Name) → machine.is_paged prefix n ≡ true → is_within prefix n.digest ≡ true
 paged-within prefix n h = begins-within prefix n.digest (paged-begins prefix n (machine.begins prefix n.digest) (is_none n.deadline) h)
+
+-- a page from one bucket more
+pub page-step : {A B : Type 0} (f : A → B) (p : A → Bool) (out new : List B) (xs ys zs : List A) → new ≡ out ++ map f (filter p xs) → zs ≡ xs ++ ys → new ++ map f (filter p ys) ≡ out ++ map f (filter p zs)
+page-step f p out new xs ys zs e z =
+    ap (λ v. v ++ map f (filter p ys)) e ∙ append_assoc out (map f (filter p xs)) (map f (filter p ys))
+    ∙ ap (λ v. out ++ v) (sym (map-append f (filter p xs) (filter p ys)) ∙ ap (map f) (sym (filter-append p xs ys) ∙ ap (filter p) (sym z)))
+
+pub page-end : {A B : Type 0} (f : A → B) (p : A → Bool) (out : List B) (xs : List A) → xs ≡ [] → out ≡ out ++ map f (filter p xs)
+page-end f p out xs e = sym (append-nil out) ∙ ap (λ v. out ++ map f (filter p v)) (sym e)
+
+-- ---- the copies of a digest
+first-true : (b c : Bool) → (b && c) ≡ true → b ≡ true
+first-true true c h = refl
+first-true false c h = h
+
+pub no-copy : (digest : List ℕ) (es : List (Name × Sized)) → filter (λ e. bytes_eq e.0.digest digest) es ≡ [] → None ≡ last_or None (filter (λ e. machine.is_copy_of digest e.0) es)
+no-copy digest es h = ap (λ (v : List (Name × Sized)). last_or None (filter (λ e. is_some e.0.deadline) v)) (sym h) ∙ ap (last_or None) (filter-both (λ e. is_some e.0.deadline) (λ e. bytes_eq e.0.digest digest) es)
+
+digest-step : (digest : List ℕ) (b : Bool) (o : Option (Name × Sized)) (e : Name × Sized) (es : List (Name × Sized)) → (b ≡ true → e.0.digest ≡ digest) → IfSome o (λ e. e.0.digest ≡ digest)
+    → ((o : Option (Name × Sized)) → IfSome o (λ e. e.0.digest ≡ digest) → IfSome (last_or o es) (λ e. e.0.digest ≡ digest)) → IfSome (last_or o (cond b (e ∷ es) es)) (λ e. e.0.digest ≡ digest)
+digest-step digest true o e es own h rest = rest (Some e) (own refl)
+digest-step digest false o e es own h rest = rest o h
+
+last-from : (digest : List ℕ) (es : List (Name × Sized)) (o : Option (Name × Sized)) → IfSome o (λ e. e.0.digest ≡ digest) → IfSome (last_or o (filter (λ e. machine.is_copy_of digest e.0) es)) (λ e. e.0.digest ≡ digest)
+last-from digest [] o h = h
+last-from digest (e ∷ es) o h = digest-step digest (machine.is_copy_of digest e.0) o e (filter (λ e. machine.is_copy_of digest e.0) es) (λ t. same-bytes e.0.digest digest (first-true (bytes_eq e.0.digest digest) (is_some e.0.deadline) t)) h (last-from digest es)
+
+pub last-digest : (digest : List ℕ) (es : List (Name × Sized)) (last : Option (Name × Sized)) → last ≡ last_or None (filter (λ e. machine.is_copy_of digest e.0) es) → IfSome last (λ e. e.0.digest ≡ digest)
+last-digest digest es last is = subst (λ (o : Option (Name × Sized)). IfSome o (λ e. e.0.digest ≡ digest)) (sym is) (last-from digest es None tt)
+
+pub none-later : (p : Name × Sized → Bool) (o : Option (Name × Sized)) (es : List (Name × Sized)) → length es ≡ 0 → o ≡ last_or o (filter p es)
+none-later p o [] e = refl
+none-later p o (x ∷ es) e = absurd (omega arith)

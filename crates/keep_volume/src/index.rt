@@ -1,16 +1,18 @@
 // What a device remembers of its store: the names with their times and sizes, and the bytes of all.
-ghost use Rattle.std.specs.Prelude.{◌≡◌, ◌≤◌, ◌<◌, ◌^◌, ◌+◌, ◌-◌, ◌↔◌, IsTrue, IfOk, OnOk, [], map, option_map, true};
+ghost use Rattle.std.specs.Prelude.{◌≡◌, ◌≤◌, ◌<◌, ◌^◌, ◌+◌, ◌-◌, ◌++◌, ◌↔◌, IsTrue, IfOk, IfSome, OnOk, [], map, option_map, true};
 ghost use Rattle.std.specs.List.{find as list_find, last_or, filter};
 ghost use Rattle.hex.specs.Hex.{encode_lower};
 ghost use Rattle.keep_event.specs.Device as machine;
-ghost use Rattle.keep_event.specs.Store.{find, put, without, change, move as moved, with_mtime, AreAscending};
+ghost use Rattle.keep_event.specs.Store.{find, put, without, above, change, move as moved, with_mtime, AreAscending};
 ghost use Rattle.keep_volume.specs.Index.{size_at, total, due, sized_entry, sized_held, ArePassed, earlier_of};
-ghost use Rattle.keep_store.specs.Names.{has};
+ghost use Rattle.keep_volume.specs.Looks.{look};
+ghost use Rattle.keep_store.specs.Buckets.{room_for};
+ghost use Rattle.keep_store.specs.Names.{has, named};
 
 use hex::encode_to_slice;
 use keep_event::{Entry, Held, Name, Sized};
 use keep_spec::{Digest, NoMemory};
-use keep_store::NameList;
+use keep_store::{NameList, NameMap};
 use std::alloc::Global;
 use std::marker::Model;
 
@@ -31,18 +33,18 @@ struct Looked {
 /// The names of a store with their times and sizes.
 #[derive(Drop)]
 pub(crate) struct Index {
-    names: NameList<Sized>,
+    names: NameMap<Sized>,
     used: u128,
     passed: Passed,
 }
 
 impl Model for Index {
     ghost use Rattle.std.specs.Prelude.{◌≡◌, ◌<◌, ◌^◌};
-    ghost use Rattle.keep_store.specs.Names.{Listed};
+    ghost use Rattle.keep_store.specs.Buckets.{Bucketed};
     ghost use Rattle.keep_event.specs.declared.names.Sized.{Sized as TheSized};
     ghost use Rattle.keep_volume.specs.Index.{total, ArePassed};
 
-    ghost Value = { Listed TheSized };
+    ghost Value = { Bucketed TheSized };
 
     ghost view = { λ i. i.names };
 
@@ -54,9 +56,9 @@ impl Index {
         requires { AreAscending (map (λ h. h.name) names.now) }
         ensures { IfOk result (λ i. i.entries ≡ map sized_held names.now) }
     {
-        let (items, used) = sized_names(alloc, names)?;
+        let (names, used) = sized_names(alloc, names)?;
         Ok(Index {
-            names: NameList::of_ascending(items),
+            names,
             used,
             passed: Passed {
                 up_to: None,
@@ -105,7 +107,7 @@ impl Index {
 
     pub(crate) fn remove(&mut self, name: &Name)
         ensures after { self.new.entries ≡ without name.now self.old.entries }
-        ensures room { has name.now self.old.entries ≡ true → 0 < self.new.room }
+        ensures room { has name.now self.old.entries ≡ true → 0 < room_for name.now self.new.rooms }
         ensures fits { total self.new.entries + size_at name.now self.old.entries < 2 ^ 127 }
     {
         let freed = self.size_at(name);
@@ -113,7 +115,9 @@ impl Index {
         self.used -= freed as u128;
     }
 
+    /// Gives what has the name another name of the same digest, in the place of what has that. It takes no memory.
     pub(crate) fn rename(&mut self, from: &Name, to: &Name, mtime: u64)
+        requires { from.now.digest ≡ to.now.digest }
         ensures { self.new.entries ≡ moved (with_mtime mtime) from.now to.now self.old.entries (find from.now self.old.entries) }
     {
         let Some(sized) = self.get(from) else {
@@ -124,15 +128,15 @@ impl Index {
         self.put_in_room(to, Sized { mtime, size });
     }
 
-    pub(crate) fn reserve_one(&mut self) -> Result<(), NoMemory>
+    pub(crate) fn reserve_for(&mut self, name: &Name) -> Result<(), NoMemory>
         ensures same { self.new.entries ≡ self.old.entries }
-        ensures ok { OnOk result (0 < self.new.room) }
+        ensures ok { OnOk result (0 < room_for name.now self.new.rooms) }
     {
-        self.names.reserve_one()
+        self.names.reserve_for(name)
     }
 
     pub(crate) fn put_in_room(&mut self, name: &Name, sized: Sized)
-        requires room { 0 < self.old.room }
+        requires room { 0 < room_for name.now self.old.rooms }
         requires fits { total self.old.entries - size_at name.now self.old.entries + sized.size < 2 ^ 127 }
         ensures { self.new.entries ≡ put name.now sized self.old.entries }
     {
@@ -160,10 +164,14 @@ impl Index {
 
     /// The trashed copy of a digest with the greatest deadline.
     pub(crate) fn last_copy(&self, digest: &Digest) -> Option<(Name, Sized)>
-        ensures { result ≡ last_or None (filter (λ e. machine.is_copy_of digest.now e.0) self.now.entries) }
+        ensures value { result ≡ last_or None (filter (λ e. machine.is_copy_of digest.now e.0) self.now.entries) }
+        ensures digest { IfSome result (λ e. e.0.digest ≡ digest.now) }
     {
+        let Some(entries) = self.names.of_digest(digest) else {
+            return None;
+        };
         let mut last = None;
-        for entry in self.names.of_digest(digest) {
+        for entry in entries {
             if entry.0.deadline.is_some() {
                 last = Some(*entry);
             }
@@ -176,31 +184,64 @@ impl Index {
         ensures { IfOk result (λ v. v.items ≡ map sized_entry (filter (λ e. machine.is_paged prefix.now e.0) self.now.entries)) }
     {
         let mut entries = Vec::new(alloc);
-        for item in self.names.within(prefix) {
-            if is_paged(&item.0, prefix) {
-                let entry = Entry {
-                    digest: item.0.digest,
-                    size: item.1.size,
-                    mtime: item.1.mtime,
-                };
-                if entries.push(entry).is_err() {
-                    return Err(NoMemory);
-                }
-            }
+        for bucket in self.names.above(None) {
+            page_more(&mut entries, bucket, prefix)?;
         }
         Ok(entries)
     }
 }
 
+// Adds the replicas whose digits begin with the prefix.
+fn page_more(
+    entries: &mut Vec<Entry>,
+    names: &NameList<Sized>,
+    prefix: &[u8],
+) -> Result<(), NoMemory>
+    ensures { OnOk result (entries.new.items ≡ entries.old.items ++ map sized_entry (filter (λ e. machine.is_paged prefix.now e.0) names.now.entries)) }
+{
+    for item in names.within(prefix) {
+        if is_paged(&item.0, prefix) {
+            let entry = Entry {
+                digest: item.0.digest,
+                size: item.1.size,
+                mtime: item.1.mtime,
+            };
+            if entries.push(entry).is_err() {
+                return Err(NoMemory);
+            }
+        }
+    }
+    Ok(())
+}
+
 // Looks for the first copy whose deadline has passed, from where an earlier look came to.
-fn look_through(names: &NameList<Sized>, passed: Passed, reading: u64) -> Looked
+fn look_through(names: &NameMap<Sized>, passed: Passed, reading: u64) -> Looked
     requires waiting { reading ≤ passed.earliest }
     requires passed { ArePassed passed.up_to passed.earliest names.now.entries }
     ensures found { result.found ≡ option_map (λ e. e.0) (list_find (due reading) names.now.entries) }
     ensures passed { ArePassed result.passed.up_to result.passed.earliest names.now.entries }
 {
+    let after = passed.up_to;
     let mut came = passed;
-    for entry in names.above(passed.up_to.as_ref()) {
+    for bucket in names.above(after.as_ref()) {
+        let looked = look_in(bucket, after.as_ref(), came, reading);
+        if looked.found.is_some() {
+            return looked;
+        }
+        came = looked.passed;
+    }
+    Looked {
+        found: None,
+        passed: came,
+    }
+}
+
+// The same in one bucket, in the names above one.
+fn look_in(names: &NameList<Sized>, after: Option<&Name>, passed: Passed, reading: u64) -> Looked
+    ensures { result ≡ look reading passed (above (named after.entry) names.now.entries) }
+{
+    let mut came = passed;
+    for entry in names.above(after) {
         let name = entry.0;
         if is_due(name.deadline, reading) {
             let found = Some(name);
@@ -230,25 +271,24 @@ fn earlier(earliest: u64, name: &Name) -> u64
     }
 }
 
-// The entries of the names, and the bytes of all.
-fn sized_names(alloc: Global, names: &[Held]) -> Result<(Vec<(Name, Sized)>, u128), NoMemory>
-    ensures items { IfOk result (λ r. r.0.items ≡ map sized_held names.now) }
-    ensures used { IfOk result (λ r. r.1 ≡ total r.0.items) }
+// The names with their times and sizes, and the bytes of all.
+fn sized_names(alloc: Global, names: &[Held]) -> Result<(NameMap<Sized>, u128), NoMemory>
+    requires { AreAscending (map (λ h. h.name) names.now) }
+    ensures entries { IfOk result (λ r. r.0.entries ≡ map sized_held names.now) }
+    ensures used { IfOk result (λ r. r.1 ≡ total r.0.entries) }
     ensures small { IfOk result (λ r. r.1 < 2 ^ 127) }
 {
-    let mut items = Vec::with_capacity(alloc, names.len())?;
+    let mut index = NameMap::new(alloc);
     let mut used = 0u128;
     for held in names {
         let sized = Sized {
             mtime: held.mtime,
             size: held.size,
         };
-        if items.push((held.name, sized)).is_err() {
-            return Err(NoMemory);
-        }
+        index.put(&held.name, sized)?;
         used += held.size as u128;
     }
-    Ok((items, used))
+    Ok((index, used))
 }
 
 fn is_due(deadline: Option<u64>, reading: u64) -> bool

@@ -423,8 +423,9 @@ impl<S: Store> Volume<S> {
         Ok(there)
     }
 
-    // Gives what has a name another name and time.
+    // Gives what has the name another name of the same digest, and another time.
     fn rename(&mut self, from: &Name, to: &Name, mtime: u64) -> Result<bool, Failed>
+        requires { from.now.digest ≡ to.now.digest }
         ensures { IsStoreCall (λ es. store.rename from.now to.now mtime es (find from.now es)) self.old self.new result }
     {
         let there = self.store.rename(from, to, mtime)?;
@@ -467,7 +468,8 @@ impl<S: Store> Volume<S> {
 
     // The trashed copy of a digest with the greatest deadline.
     fn last_copy(&self, digest: &Digest) -> Option<(Name, Sized)>
-        ensures { IfSome self.now.held (λ es. result ≡ option_map sized (machine.last_copy digest.now es)) }
+        ensures told { IfSome self.now.held (λ es. result ≡ option_map sized (machine.last_copy digest.now es)) }
+        ensures digest { IfSome result (λ e. e.0.digest ≡ digest.now) }
     {
         self.index.last_copy(digest)
     }
@@ -486,7 +488,7 @@ impl<S: Store> Volume<S> {
                 capacity: self.rules.capacity,
             });
         }
-        self.index.reserve_one()?;
+        self.index.reserve_for(&name)?;
         match self.store.put(&name, mtime, block.bytes()) {
             Ok(()) => {}
             Err(StoreError::Failed) => return Ok(DeviceAnswer::StoreFault),

@@ -1,37 +1,29 @@
-use Rattle.std.proofs.Common.{rules, arith, sym, ◌∙◌, ap, subst, take, map, ◌≡◌, ◌++◌, ◌∷◌, [], ◌-◌, length, append-nil, length-append, ℕ}
-use Rattle.std.proofs.Math.Nat.{sub-zero}
-use Rattle.std.proofs.lemmas.Grind.{common_steps}
-use Rattle.std.specs.Slice.Iter.{iter_rest}
+use Rattle.std.proofs.Common.{◌≡◌, ◌∙◌, ◌++◌, ◌+◌, ap, sym, subst, take, drop, map, length}
 use Rattle.keep_event.specs.Store.{held_of, above, AreAscending}
-use Rattle.keep_store.proofs.Listing.{take-none, take-step, page-ascends}
+use Rattle.keep_store.specs.Buckets.{entries_above}
+use Rattle.keep_store.proofs.Buckets.{above-step, none-above}
+use Rattle.keep_store.proofs.Listing.{page-ascends, list-step, take-few, all-listed}
 use Rattle.keep_store.proofs.memory.listed.Goals as goal
-use Rattle.keep_store.proofs.memory.listed.Goals.{in-None, in-Some+then-len-limit}
-
--- all is listed, or as much as was asked for
-whole : (c : goal.Joined-next) → c.loop-item.out.items ≡ take c.args.limit (map held_of (above c.args.after c.args.names.now.entries))
-whole c =
-    let out = c.loop-item.out.items in
-    elim c.match-next.branch [
-      | in-None w ↦ sym (append-nil out) ∙ ap (λ v. out ++ v) (sym (take-none held_of (c.args.limit - length out) (iter_rest c.loop-item.item-iterator) w.in-None.ensures.steps.0)) ∙ c.loop-item.invariant.listed
-      | in-Some+then-len-limit w ↦
-          let none : c.args.limit - length out ≡ 0 = grind (arith, common_steps) in
-          sym (append-nil out) ∙ ap (λ k. out ++ take k (map held_of (iter_rest c.loop-item.item-iterator))) (sym none) ∙ c.loop-item.invariant.listed
-    ]
-
-pub returns-clause-value : goal.returns-clause-value
-returns-clause-value c = whole c
 
 pub returns-clause-ascending : goal.returns-clause-ascending
-returns-clause-ascending c = subst (λ v. AreAscending (map (λ h. h.name) v)) (sym (whole c)) (page-ascends c.args.after c.args.limit c.args.names.now.entries c.above-item-items.ensures.ascending)
+returns-clause-ascending c =
+    let bs = c.above-bucket-items.result.now in
+    let i = c.loop-bucket.bucket-index in
+    let out = c.loop-bucket.out.items in
+    let end = ap length (none-above c.args.after bs i c.loop-bucket-test.false) in
+    let whole : out ≡ take c.args.limit (map held_of (above c.args.after c.args.names.now.entries)) = sym (all-listed held_of c.args.limit out (entries_above c.args.after (drop i bs)) c.loop-bucket.invariant.few end) ∙ c.loop-bucket.invariant.listed in
+    subst (λ v. AreAscending (map (λ h. h.name) v)) (sym whole) (page-ascends c.args.after c.args.limit c.args.names.now.entries c.above-bucket-items.ensures.ascending)
 
-pub loop-item-preserved : goal.loop-item-preserved
-loop-item-preserved c =
-    let out = c.loop-item.out.items in
-    let pushed : c.push.new.self.items ≡ c.loop-item.out.items ++ held_of c.in-Some.item.now ∷ [] = grind (arith, common_steps) in
+pub loop-bucket-preserved : goal.loop-bucket-preserved
+loop-bucket-preserved c =
+    let bs = c.above-bucket-items.result.now in
+    let i = c.loop-bucket.bucket-index in
+    let out = c.loop-bucket.out.items in
+    let l = c.bucket-item.result in
+    let limit = c.args.limit in
+    let more : c.list_more.new.out.items ≡ take limit (out ++ map held_of (above c.args.after l.entries)) = c.in_ok-list_more.ensures.listed ∙ ap (λ v. take limit (out ++ map held_of (above v l.entries))) c.as_ref-in-loop-bucket.ensures.value in
     record {
-      listed = rw pushed (take-step c.args.limit out (held_of c.in-Some.item.now) (map held_of (iter_rest c.next.new.self)) (grind (arith, common_steps)) ∙ ap (λ v. out ++ take (c.args.limit - length out) (map held_of v)) (sym c.in-Some.ensures.steps) ∙ c.loop-item.invariant.listed);
-      few = rw pushed (omega (arith, length-append out (held_of c.in-Some.item.now ∷ [])));
+      listed = list-step held_of limit out c.list_more.new.out.items (above c.args.after l.entries) (entries_above c.args.after (drop (i + 1) bs)) more
+          ∙ ap (λ v. take limit (out ++ map held_of v)) (sym (above-step c.args.after bs i l c.loop-bucket-test.true c.bucket-item.is)) ∙ c.loop-bucket.invariant.listed;
+      few = rw more (take-few limit (out ++ map held_of (above c.args.after l.entries)));
     }
-
-pub loop-item-init : goal.loop-item-init
-loop-item-init c = rw c.new-out.ensures.items (record { listed = ap (λ (k : ℕ). take k (map held_of (iter_rest c.into_iter-item-iterator.result))) (sub-zero c.args.limit) ∙ ap (λ v. take c.args.limit (map held_of v)) (search rules); few = omega arith })

@@ -4,7 +4,7 @@ use Rattle.keep_volume.proofs.index.sized_names.Given as goal
 
 abbrev pub invariant-loop-held : goal.invariant-loop-held
 invariant-loop-held l = record {
-  items : l.items.items ≡ map sized_held (take l.held-index l.names);
-  used : l.used ≡ total l.items.items;
+  entries : l.index.entries ≡ map sized_held (take l.held-index l.names);
+  used : l.used ≡ total l.index.entries;
   few : l.used ≤ l.held-index * 2 ^ 64;
 }
