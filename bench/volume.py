@@ -4,8 +4,9 @@
     bench/volume.py PROGRAM [BLOCKS]
 
 PROGRAM is the built `keep_bench`. The blocks are lines of digits, made afresh; each is put as a client does, which first
-asks whether the device has it. The figures are the seconds at BLOCKS (10,000) and at ten times as many, and their ratio:
-10 would be growth in proportion."""
+asks whether the device has it. Each number of blocks runs five times. The figures are the median seconds at BLOCKS (10,000)
+and at ten times as many, the least and the greatest, and the ratio of the medians: 10 would be growth in proportion."""
+import statistics
 import subprocess
 import sys
 import time
@@ -22,11 +23,17 @@ def seconds(program, count):
     return taken
 
 
+def measured(program, count, runs=5):
+    taken = sorted(seconds(program, count) for _ in range(runs))
+    middle = statistics.median(taken)
+    print("%d blocks: %.4f s (%.4f to %.4f), %.0f blocks a second" % (count, middle, taken[0], taken[-1], count / middle))
+    return middle
+
+
 def main():
     program, count = sys.argv[1], int(sys.argv[2]) if len(sys.argv) > 2 else 10000
-    few, many = seconds(program, count), seconds(program, 10 * count)
-    print("%d blocks: %.2f s" % (count, few))
-    print("%d blocks: %.2f s, %.0f blocks a second, %.1f times" % (10 * count, many, 10 * count / many, many / few))
+    few, many = measured(program, count), measured(program, 10 * count)
+    print("%.1f times" % (many / few))
 
 
 if __name__ == "__main__":
