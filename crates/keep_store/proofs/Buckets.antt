@@ -6,9 +6,8 @@ use Rattle.std.specs.Prelude.{OnOk}
 use Rattle.std.proofs.lemmas.Option.{slice_get_read}
 use Rattle.std.proofs.lemmas.Slice.Eq.{bytes_eq-Decides}
 use Rattle.std.proofs.lemmas.List.Elements.{filter-append}
-use Rattle.std.specs.declared.cmp.Ordering.{Ordering}
-use Rattle.std.specs.declared.cmp.Ordering.TheVariants.{Less, Equal, Greater}
-use Rattle.std.specs.Ordering.{nat_cmp, ordering_then, match_ordering}
+use Rattle.std.specs.declared.cmp.Ordering.TheVariants.{Less, Greater}
+use Rattle.std.specs.Ordering.{nat_cmp, ordering_then}
 use Rattle.std.specs.Option.{option_cmp}
 use Rattle.std.specs.Cmp.{nat_cmp_is}
 use Rattle.std.specs.Cmp.Lexicographic.{slice_cmp}
@@ -17,8 +16,8 @@ use Rattle.keep_event.specs.Store.{Cut, cut, onto, name_cmp, find, put, without,
 use Rattle.keep_event.specs.declared.names.Name.{Name}
 use Rattle.keep_store.specs.Names.{Listed}
 use Rattle.keep_store.specs.Buckets.{first_byte, first_bucket, entries_above, entries_of, ArePlaced, AreBuckets}
-use Rattle.keep_store.proofs.Order.{flip, all-map, all-put, all-without, ascending-put, ascending-without}
-use Rattle.keep_store.proofs.Cuts.{step}
+use Rattle.keep_store.proofs.Order.{flip, all-append, all-map, all-put, all-without, ascending-put, ascending-without}
+use Rattle.keep_store.proofs.Cuts.{within, cut-below, cut-above}
 
 -- ---- the first byte decides
 bytes-less : (xs ys : List ℕ) → get_or xs 0 0 < get_or ys 0 0 → slice_cmp nat_cmp xs ys ≡ Less
@@ -29,10 +28,6 @@ bytes-less (x ∷ xs) (y ∷ ys) lt = ap (λ o. ordering_then o (slice_cmp nat_c
 
 first-less : (n m : Name) → first_byte n < first_byte m → name_cmp n m ≡ Less
 first-less n m lt = ap (λ o. ordering_then o (option_cmp nat_cmp n.deadline m.deadline)) (bytes-less n.digest m.digest lt)
-
-all-append : {X : Type 0} (P : Name → Type 0) (xs ys : List (Name × X)) → AllByRecursion P (map (λ e. e.0) xs) → AllByRecursion P (map (λ e. e.0) ys) → AllByRecursion P (map (λ e. e.0) (xs ++ ys))
-all-append P [] ys h k = k
-all-append P (x ∷ xs) ys h k = (h.0, all-append P xs ys h.1 k)
 
 placed-from : {X : Type 0} (i : ℕ) (bs : List (Listed X)) → ArePlaced i bs → AllByRecursion (λ m. i ≤ first_byte m) (map (λ e. e.0) (entries_of bs))
 placed-from i [] p = tt
@@ -47,26 +42,6 @@ all-later n i bs lt p = all-map (λ m. i ≤ first_byte m) (λ m. name_cmp n m �
 
 all-earlier : {X : Type 0} (n : Name) (i : ℕ) (es : List (Name × X)) → i < first_byte n → AllByRecursion (λ m. first_byte m ≡ i) (map (λ e. e.0) es) → AllByRecursion (λ m. name_cmp n m ≡ Greater) (map (λ e. e.0) es)
 all-earlier n i es lt p = all-map (λ m. first_byte m ≡ i) (λ m. name_cmp n m ≡ Greater) (map (λ e. e.0) es) (λ m h. flip m n Less (first-less m n (omega arith))) p
-
--- ---- a list in three parts, of which the first is below a name and the last above it
-abbrev within : {X : Type 0} → List (Name × X) → Cut X → List (Name × X) → Cut X
-within xs c zs = record { front = xs ++ c.front; at = c.at; back = c.back ++ zs }
-
-cut-below : {X : Type 0} (n : Name) (xs zs : List (Name × X)) → AllByRecursion (λ m. name_cmp n m ≡ Greater) (map (λ e. e.0) xs) → cut n (xs ++ zs) ≡ onto xs (cut n zs)
-cut-below n [] zs h = refl
-cut-below n (x ∷ xs) zs h = step n x (xs ++ zs) Greater h.0 ∙ ap (onto (x ∷ [])) (cut-below n xs zs h.1)
-
-cut-above-step : {X : Type 0} (o : Ordering) (y : Name × X) (ys zs : List (Name × X)) (c d : Cut X) → d ≡ within [] c zs
-    → match_ordering o (record { front = []; at = None; back = y ∷ (ys ++ zs) }) (record { front = []; at = Some y; back = ys ++ zs }) (onto (y ∷ []) d)
-    ≡ within [] (match_ordering o (record { front = []; at = None; back = y ∷ ys }) (record { front = []; at = Some y; back = ys }) (onto (y ∷ []) c)) zs
-cut-above-step Less y ys zs c d e = refl
-cut-above-step Equal y ys zs c d e = refl
-cut-above-step Greater y ys zs c d e = ap (onto (y ∷ [])) e
-
-cut-above : {X : Type 0} (n : Name) (ys zs : List (Name × X)) → AllByRecursion (λ m. name_cmp n m ≡ Less) (map (λ e. e.0) zs) → cut n (ys ++ zs) ≡ within [] (cut n ys) zs
-cut-above n [] [] h = refl
-cut-above n [] (z ∷ zs) h = step n z zs Less h.0
-cut-above n (y ∷ ys) zs h = cut-above-step (name_cmp n y.0) y ys zs (cut n ys) (cut n (ys ++ zs)) (cut-above n ys zs h)
 
 -- ---- the bucket of a name, and those before and behind it
 abbrev before : {X : Type 0} → ℕ → List (Listed X) → List (Name × X)

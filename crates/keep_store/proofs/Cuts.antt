@@ -70,6 +70,26 @@ module _ {X : Type 0} (n : Name) where
       no-more (e ∷ es) zero le = absurd (omega arith)
       no-more (e ∷ es) (suc i) le = no-more es i (omega arith)
 
+-- ---- a list in three parts, of which the first is below a name and the last above it
+abbrev pub within : {X : Type 0} → List (Name × X) → Cut X → List (Name × X) → Cut X
+within xs c zs = record { front = xs ++ c.front; at = c.at; back = c.back ++ zs }
+
+pub cut-below : {X : Type 0} (n : Name) (xs zs : List (Name × X)) → AllByRecursion (λ m. name_cmp n m ≡ Greater) (map (λ e. e.0) xs) → cut n (xs ++ zs) ≡ onto xs (cut n zs)
+cut-below n [] zs h = refl
+cut-below n (x ∷ xs) zs h = step n x (xs ++ zs) Greater h.0 ∙ ap (onto (x ∷ [])) (cut-below n xs zs h.1)
+
+cut-above-step : {X : Type 0} (o : Ordering) (y : Name × X) (ys zs : List (Name × X)) (c d : Cut X) → d ≡ within [] c zs
+    → match_ordering o (record { front = []; at = None; back = y ∷ (ys ++ zs) }) (record { front = []; at = Some y; back = ys ++ zs }) (onto (y ∷ []) d)
+    ≡ within [] (match_ordering o (record { front = []; at = None; back = y ∷ ys }) (record { front = []; at = Some y; back = ys }) (onto (y ∷ []) c)) zs
+cut-above-step Less y ys zs c d e = refl
+cut-above-step Equal y ys zs c d e = refl
+cut-above-step Greater y ys zs c d e = ap (onto (y ∷ [])) e
+
+pub cut-above : {X : Type 0} (n : Name) (ys zs : List (Name × X)) → AllByRecursion (λ m. name_cmp n m ≡ Less) (map (λ e. e.0) zs) → cut n (ys ++ zs) ≡ within [] (cut n ys) zs
+cut-above n [] [] h = refl
+cut-above n [] (z ∷ zs) h = step n z zs Less h.0
+cut-above n (y ∷ ys) zs h = cut-above-step (name_cmp n y.0) y ys zs (cut n ys) (cut n (ys ++ zs)) (cut-above n ys zs h)
+
 module _ {X : Type 0} (n : Name) (es : List (Name × X)) (i : ℕ) (is : IsPlace es (cut n es) (Ok i)) where
   pub put-at : (x : X) → put n x es ≡ slice_set es i (n, x)
   put-at x = rw (is.1, is.3, add-one) (sym (set_split es i (n, x) is.0))

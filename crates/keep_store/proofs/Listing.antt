@@ -78,3 +78,9 @@ pub take-few : {A : Type 0} (k : ℕ) (xs : List A) → length (take k xs) ≤ k
 take-few zero xs = omega arith
 take-few (suc k) [] = omega arith
 take-few (suc k) (x ∷ xs) = let h = take-few k xs in omega (arith, h)
+
+-- one side, an entry and the other side are listed one after the other
+pub list-node : {A B : Type 0} (f : A → B) (k : ℕ) (out low own : List B) (xs : List A) (x : A) (ys : List A) → low ≡ take k (out ++ map f xs) → own ≡ take k (low ++ f x ∷ []) → take k (own ++ map f ys) ≡ take k (out ++ map f (xs ++ x ∷ ys))
+list-node f k out low own xs x ys d e =
+    list-step f k out own (xs ++ x ∷ []) ys (e ∙ list-step f k out low xs (x ∷ []) d)
+    ∙ ap (λ v. take k (out ++ map f v)) (append_assoc xs (x ∷ []) ys)

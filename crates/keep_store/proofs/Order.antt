@@ -30,6 +30,10 @@ pub all-map : (P Q : Name → Type 0) (ns : List Name) → ((m : Name) → P m �
 all-map P Q [] f h = tt
 all-map P Q (m ∷ ns) f h = (f m h.0, all-map P Q ns f h.1)
 
+pub all-append : {X : Type 0} (P : Name → Type 0) (xs ys : List (Name × X)) → AllByRecursion P (map (λ e. e.0) xs) → AllByRecursion P (map (λ e. e.0) ys) → AllByRecursion P (map (λ e. e.0) (xs ++ ys))
+all-append P [] ys h k = k
+all-append P (x ∷ xs) ys h k = (h.0, all-append P xs ys h.1 k)
+
 all-at : {X : Type 0} (P : Name → Type 0) (es : List (Name × X)) (i : ℕ) (d : Name × X) → i < length es → AllByRecursion P (map (λ e. e.0) es) → P (get_or es i d).0
 all-at P [] i d lt h = absurd (omega arith)
 all-at P (e ∷ es) zero d lt h = h.0

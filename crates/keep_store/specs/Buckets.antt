@@ -1,5 +1,5 @@
 -- Names in buckets, one for each first byte of a digest.
-use Rattle.std.specs.Prelude.{◌≡◌, ℕ, suc, ◌<◌, ◌⊎◌, List, [], ◌∷◌, ◌++◌, length, map, slice_index, Option, None, Some}
+use Rattle.std.specs.Prelude.{◌≡◌, ℕ, suc, ◌⊎◌, List, [], ◌∷◌, ◌++◌, length, map, slice_index, Option, None, Some}
 use Rattle.std.specs.List.{AllByRecursion}
 use Rattle.keep_event.specs.Store.{above, IsAscending}
 use Rattle.keep_event.specs.declared.names.Name.{Name}
@@ -39,7 +39,3 @@ pub record AreBuckets {X : Type 0} (bs : List (Listed X)) : Type 0 where
 abbrev pub first_bucket : Option Name → ℕ
 first_bucket None = 0
 first_bucket (Some n) = first_byte n
-
--- what has a name can take another without memory
-abbrev pub CanMove : Name → Name → List ℕ → Type 0
-CanMove from to rooms = (first_byte from ≡ first_byte to) ⊎ (0 < room_for to rooms)

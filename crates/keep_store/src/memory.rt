@@ -1,18 +1,18 @@
 // A store in memory, with a list of the calls that are to fail.
-ghost use Rattle.std.specs.Prelude.{◌≡◌, ◌≤◌, ◌++◌, ℕ, List, Option, Some, None, IfSome, IfOk, OnOk, OnErr, [], option_map, option_copied, take, map, length};
-ghost use Rattle.keep_event.specs.Store.{find, put, above, held_of, size_of, AreAscending, IsAscending, stored};
-ghost use Rattle.keep_spec.specs.Causes.{Rose};
-ghost use Rattle.keep_store.specs.Names.{IsCounted, named};
+ghost use Rattle.std.specs.Prelude.{◌≡◌, Some, IfOk, [], option_map, option_copied, take, map};
+ghost use Rattle.keep_event.specs.Store.{above, held_of, size_of, AreAscending};
+ghost use Rattle.keep_store.specs.Names.{IsCounted};
 
-use crate::{Failed, NameList, NameMap, Store, StoreError};
+use crate::tree_node::{Entry, NameTree};
+use crate::{Failed, Store, StoreError};
 use keep_event::{Held, Name, Sized, Stored};
-use keep_spec::{Bytes, NoMemory};
+use keep_spec::NoMemory;
 use std::alloc::Global;
 
-/// A store in memory. A rename to a name whose digest begins with another byte may want memory; where it isn't given, the call has failed, and is counted so.
+/// A store in memory. The calls that answer `Failed` alone take no memory.
 #[derive(Drop)]
 pub struct MemoryStore {
-    names: NameMap<Stored>,
+    names: NameTree,
     round: u64,
     failing: Vec<u64>,
     calls: u64,
@@ -28,7 +28,7 @@ impl MemoryStore {
         ensures faults { ⟦<MemoryStore as Store>⟧.faults result ≡ 0 }
     {
         MemoryStore {
-            names: NameMap::new(alloc),
+            names: NameTree::new(),
             round: 0,
             failing,
             calls: 0,
@@ -39,27 +39,20 @@ impl MemoryStore {
 
     // Whether this call is to fail.
     fn is_failing(&mut self) -> bool
-        ensures same { (self.new.names.entries ≡ self.old.names.entries) × (self.new.round ≡ self.old.round) }
+        ensures same { (self.new.names ≡ self.old.names) × (self.new.round ≡ self.old.round) }
         ensures cause { IsCounted self.old.faults self.new.faults result }
     {
         self.calls = self.calls.saturating_add(1);
         if self.failing.contains(&self.calls) {
-            self.count_fault();
+            self.faults = self.faults.saturating_add(1);
             return true;
         }
         false
     }
-
-    fn count_fault(&mut self)
-        ensures same { (self.new.names.entries ≡ self.old.names.entries) × (self.new.round ≡ self.old.round) }
-        ensures cause { (self.old.faults ≤ self.new.faults) × Rose self.old.faults self.new.faults }
-    {
-        self.faults = self.faults.saturating_add(1);
-    }
 }
 
 impl Store for MemoryStore {
-    ghost held = { λ s. Some s.names.entries };
+    ghost held = { λ s. Some s.names };
 
     ghost noted = { λ s. Some s.round };
 
@@ -79,12 +72,10 @@ impl Store for MemoryStore {
         if self.is_failing() {
             return Err(StoreError::Failed);
         }
-        let Ok(stored) = kept(self.alloc, mtime, bytes) else {
+        let Ok(entry) = Entry::new(self.alloc, name, mtime, bytes) else {
             return Err(StoreError::NoMemory);
         };
-        if self.names.put(name, stored).is_err() {
-            return Err(StoreError::NoMemory);
-        }
+        self.names.put(entry);
         Ok(())
     }
 
@@ -114,10 +105,6 @@ impl Store for MemoryStore {
 
     fn rename(&mut self, from: &Name, to: &Name, mtime: u64) -> Result<bool, Failed> {
         if self.is_failing() {
-            return Err(Failed);
-        }
-        if self.names.reserve_move(from, to).is_err() {
-            self.count_fault();
             return Err(Failed);
         }
         Ok(self.names.rename(from, to, mtime))
@@ -159,55 +146,19 @@ pub(crate) fn found(alloc: Global, stored: Option<&Stored>) -> Result<Option<Sto
     }
 }
 
-// A copy of the bytes, with their time.
-pub(crate) fn kept(alloc: Global, mtime: u64, bytes: &[u8]) -> Result<Stored, NoMemory>
-    ensures { IfOk result (λ s. s ≡ stored mtime bytes.now) }
-{
-    let bytes = Bytes::of(Vec::from_slice(alloc, bytes)?);
-    Ok(Stored { mtime, bytes })
-}
-
-fn listed(
+// The names of a tree above a name, or all, up to the limit.
+pub(crate) fn listed(
     alloc: Global,
-    names: &NameMap<Stored>,
+    names: &NameTree,
     after: Option<Name>,
     limit: usize,
 ) -> Result<Vec<Held>, NoMemory>
-    ensures value { IfOk result (λ v. v.items ≡ take limit (map held_of (above after names.now.entries))) }
+    ensures value { IfOk result (λ v. v.items ≡ take limit (map held_of (above after names.now))) }
     ensures ascending { IfOk result (λ v. AreAscending (map (λ h. h.name) v.items)) }
 {
     let mut out = Vec::new(alloc);
-    for bucket in names.above(after.as_ref()) {
-        list_more(&mut out, bucket, after.as_ref(), limit)?;
-    }
+    names.list(after.as_ref(), limit, &mut out)?;
     Ok(out)
-}
-
-// Lists the names above a name, up to the limit.
-pub(crate) fn list_more(
-    out: &mut Vec<Held>,
-    names: &NameList<Stored>,
-    after: Option<&Name>,
-    limit: usize,
-) -> Result<(), NoMemory>
-    requires { length out.old.items ≤ limit }
-    ensures listed { OnOk result (out.new.items ≡ take limit (out.old.items ++ map held_of (above (named after.entry) names.now.entries))) }
-    ensures ascending { IsAscending names.now.entries }
-{
-    for item in names.above(after) {
-        if out.len() == limit {
-            break;
-        }
-        let held = Held {
-            name: item.0,
-            mtime: item.1.mtime,
-            size: item.1.bytes.len() as u64,
-        };
-        if out.push(held).is_err() {
-            return Err(NoMemory);
-        }
-    }
-    Ok(())
 }
 
 pub(crate) fn sized(stored: Option<&Stored>) -> Option<Sized>

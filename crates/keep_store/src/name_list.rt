@@ -1,14 +1,14 @@
 // Ascending names, each with what it has.
 ghost use Rattle.std.specs.Prelude.{◌≡◌, ◌<◌, ◌↔◌, ℕ, Option, [], true, false, IsTrue, OnOk, OnErr, length, option_copied, option_map};
 ghost use Rattle.std.specs.Slice.Iter.{iter_rest};
-ghost use Rattle.keep_event.specs.Store.{cut, find, put, without, above, change, move as moved, IsAscending, with_time, with_mtime};
+ghost use Rattle.keep_event.specs.Store.{cut, find, put, without, above, change, IsAscending, with_mtime};
 ghost use Rattle.std.specs.List.{filter};
 ghost use Rattle.std.specs.Str.{bytes_eq};
 ghost use Rattle.keep_store.specs.Digits.{is_within};
 ghost use Rattle.keep_store.specs.Names.{IsPlace, has, named};
 
 use crate::digits::digits_order;
-use keep_event::{Name, Sized, Stored};
+use keep_event::{Name, Sized};
 use keep_spec::{Digest, NoMemory};
 use std::alloc::Global;
 use std::marker::Model;
@@ -21,14 +21,6 @@ pub trait Timed {
     /// Gives it another time, in nanoseconds since 1970.
     fn set_mtime(&mut self, mtime: u64)
         ensures { self.new ≡ with_time mtime self.old };
-}
-
-impl Timed for Stored {
-    ghost with_time = { with_time };
-
-    fn set_mtime(&mut self, mtime: u64) {
-        self.mtime = mtime;
-    }
 }
 
 impl Timed for Sized {
@@ -192,21 +184,6 @@ impl<X> NameList<X> {
             }
             Err(_) => false,
         }
-    }
-
-    /// Gives what has the name another name, in the place of what has that, and another time. It takes no memory. False: nothing has it.
-    pub fn rename(&mut self, from: &Name, to: &Name, mtime: u64) -> bool
-    where
-        X: Timed + Drop,
-        ensures value { result ≡ has from.now self.old.entries }
-        ensures after { self.new.entries ≡ moved (X.with_time mtime) from.now to.now self.old.entries (find from.now self.old.entries) }
-    {
-        let Some(mut value) = self.remove(from) else {
-            return false;
-        };
-        value.set_mtime(mtime);
-        self.put_in_room(to, value);
-        true
     }
 }
 

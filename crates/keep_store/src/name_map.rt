@@ -3,10 +3,9 @@ ghost use Rattle.std.specs.Prelude.{◌≡◌, ◌<◌, ◌↔◌, [], true, IsT
 ghost use Rattle.std.specs.Slice.Iter.{iter_rest};
 ghost use Rattle.std.specs.List.{filter};
 ghost use Rattle.std.specs.Str.{bytes_eq};
-ghost use Rattle.keep_event.specs.Store.{find, put, without, above, change, move as moved, IsAscending};
+ghost use Rattle.keep_event.specs.Store.{find, put, without, above, change, IsAscending};
 ghost use Rattle.keep_store.specs.Names.{has, named};
-ghost use Rattle.keep_event.specs.declared.names.Name.{Name as TheName};
-ghost use Rattle.keep_store.specs.Buckets.{first_byte, first_bucket, room_for, entries_above, entries_of, AreBuckets, CanMove};
+ghost use Rattle.keep_store.specs.Buckets.{first_byte, first_bucket, room_for, entries_above, entries_of, AreBuckets};
 
 use crate::{NameList, Timed};
 use keep_event::Name;
@@ -136,7 +135,7 @@ impl<X> NameMap<X> {
     pub fn remove(&mut self, name: &Name) -> Option<X>
         ensures value { result ≡ find name.now self.old.entries }
         ensures after { self.new.entries ≡ without name.now self.old.entries }
-        ensures room { has name.now self.old.entries ≡ true → (to : TheName) → CanMove name.now to self.old.rooms → 0 < room_for to self.new.rooms }
+        ensures room { has name.now self.old.entries ≡ true → 0 < room_for name.now self.new.rooms }
     {
         let place = bucket_of(name);
         if place >= self.buckets.len() {
@@ -159,36 +158,6 @@ impl<X> NameMap<X> {
         }
         let bucket = &mut self.buckets[place];
         bucket.touch(name, mtime)
-    }
-
-    /// Makes room for what has a name to take another. Where both begin with the same byte, as all names of one digest do, it takes no memory and is Ok.
-    pub fn reserve_move(&mut self, from: &Name, to: &Name) -> Result<(), NoMemory>
-    where
-        X: Drop,
-        ensures same { self.new.entries ≡ self.old.entries }
-        ensures ok { OnOk result (CanMove from.now to.now self.new.rooms) }
-        ensures sure { first_byte from.now ≡ first_byte to.now → IsOk result }
-    {
-        if bucket_of(from) == bucket_of(to) {
-            return Ok(());
-        }
-        self.reserve_for(to)
-    }
-
-    /// Gives what has the name another name, in the place of what has that, and another time. It takes no memory. False: nothing has it.
-    pub fn rename(&mut self, from: &Name, to: &Name, mtime: u64) -> bool
-    where
-        X: Timed + Drop,
-        requires { CanMove from.now to.now self.old.rooms }
-        ensures value { result ≡ has from.now self.old.entries }
-        ensures after { self.new.entries ≡ moved (X.with_time mtime) from.now to.now self.old.entries (find from.now self.old.entries) }
-    {
-        let Some(mut value) = self.remove(from) else {
-            return false;
-        };
-        value.set_mtime(mtime);
-        self.put_in_room(to, value);
-        true
     }
 }
 

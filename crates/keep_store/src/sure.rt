@@ -1,17 +1,17 @@
 // A store in memory that never fails.
-ghost use Rattle.std.specs.Prelude.{◌≡◌, ℕ, Some, [], IfOk, take, map};
-ghost use Rattle.keep_event.specs.Store.{above, held_of, AreAscending};
+ghost use Rattle.std.specs.Prelude.{◌≡◌, Some, []};
 
-use crate::memory::{found, kept, list_more, sized};
-use crate::{Failed, NameList, Store, StoreError};
+use crate::memory::{found, listed, sized};
+use crate::tree_node::{Entry, NameTree};
+use crate::{Failed, Store, StoreError};
 use keep_event::{Held, Name, Sized, Stored};
 use keep_spec::NoMemory;
 use std::alloc::Global;
 
-/// A store in memory that never fails: each of its names can take any other without memory. So it keeps all in one list, and a new name moves those behind it.
+/// A store in memory that never fails.
 #[derive(Drop)]
 pub struct SureStore {
-    names: NameList<Stored>,
+    names: NameTree,
     round: u64,
     alloc: Global,
 }
@@ -23,7 +23,7 @@ impl SureStore {
         ensures note { ⟦<SureStore as Store>⟧.noted result ≡ Some 0 }
     {
         SureStore {
-            names: NameList::new(alloc),
+            names: NameTree::new(),
             round: 0,
             alloc,
         }
@@ -31,7 +31,7 @@ impl SureStore {
 }
 
 impl Store for SureStore {
-    ghost held = { λ s. Some s.names.entries };
+    ghost held = { λ s. Some s.names };
 
     ghost noted = { λ s. Some s.round };
 
@@ -45,12 +45,10 @@ impl Store for SureStore {
     }
 
     fn put(&mut self, name: &Name, mtime: u64, bytes: &[u8]) -> Result<(), StoreError> {
-        let Ok(stored) = kept(self.alloc, mtime, bytes) else {
+        let Ok(entry) = Entry::new(self.alloc, name, mtime, bytes) else {
             return Err(StoreError::NoMemory);
         };
-        if self.names.put(name, stored).is_err() {
-            return Err(StoreError::NoMemory);
-        }
+        self.names.put(entry);
         Ok(())
     }
 
@@ -85,18 +83,4 @@ impl Store for SureStore {
         self.round = round;
         Ok(())
     }
-}
-
-fn listed(
-    alloc: Global,
-    names: &NameList<Stored>,
-    after: Option<Name>,
-    limit: usize,
-) -> Result<Vec<Held>, NoMemory>
-    ensures value { IfOk result (λ v. v.items ≡ take limit (map held_of (above after names.now.entries))) }
-    ensures ascending { IfOk result (λ v. AreAscending (map (λ h. h.name) v.items)) }
-{
-    let mut out = Vec::new(alloc);
-    list_more(&mut out, names, after.as_ref(), limit)?;
-    Ok(out)
 }

@@ -1,4 +1,5 @@
-// What no clause says: that calls succeed with ample memory, at each store, and which calls fail.
+// What no clause says: that calls succeed with ample memory, at each store, which calls fail, and that the tree is kept low.
+use crate::tree_node::{Entry, NameTree};
 use crate::{MemoryStore, NameList, NameMap, Store, StoreError, SureStore};
 use keep_event::{Name, Sized};
 use keep_spec::Digest;
@@ -122,5 +123,22 @@ fn names_in_buckets_are_found(rt: HostRuntime) -> Result<(), Fail> {
     assert_eq!(rt; names.remove(&name_of(0xff, None)), Some(0xff));
     assert_eq!(rt; names.remove(&name_of(0xff, None)), None);
     assert!(rt; !names.is_empty());
+    Ok(())
+}
+
+#[test]
+fn a_tree_is_kept_low(rt: HostRuntime) -> Result<(), Fail> {
+    let mut tree = NameTree::new();
+    for deadline in 0..300 {
+        let name = name_of(7, Some(deadline));
+        tree.put(Entry::new(rt.alloc(), &name, deadline, b"copy")?);
+    }
+    let height = tree.height();
+    assert!(rt; height <= 10, "300 names that rise: {height}");
+    for deadline in 0..290 {
+        assert!(rt; tree.remove(&name_of(7, Some(deadline))).is_some());
+    }
+    let height = tree.height();
+    assert!(rt; height <= 4, "10 names that are left: {height}");
     Ok(())
 }

@@ -1,4 +1,4 @@
-use Rattle.std.proofs.Common.{◌<◌, ◌∙◌, length, refl, ap, rules, inl, inr}
+use Rattle.std.proofs.Common.{◌<◌, ◌∙◌, length, refl, ap, rules, inl}
 use Rattle.std.specs.Prelude.{is_some}
 use Rattle.keep_store.proofs.Buckets.{find-bucket, without-bucket, without-buckets, room-set, read-at}
 use Rattle.keep_store.proofs.name_map.NameMap.remove.Goals as goal
@@ -34,4 +34,4 @@ returns-clause-room g c =
     let l = c.index_mut-bucket.result.now in
     let lt : b < length bs = search rules in
     let same = ap is_some (find-bucket c.args.name.now b l bs c.self.invariant c.bucket_of-place.ensures.value (read-at bs bs b l refl lt c.index_mut-bucket.ensures.value)) in
-    rw (← c.self.view_is) (λ there to h. room-set bs b _ c.remove.new.self lt (c.remove.ensures.room (same ∙ there)) (elim h [ inl e ↦ inl (c.bucket_of-place.ensures.value ∙ e) | inr r ↦ inr r ]))
+    rw (← c.self.view_is) (λ there. room-set bs b _ c.remove.new.self lt (c.remove.ensures.room (same ∙ there)) (inl c.bucket_of-place.ensures.value))
