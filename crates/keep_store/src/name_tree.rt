@@ -46,15 +46,21 @@ impl NameTree {
     {
         match self.take() {
             Node::Leaf => *self = NameTree::of(fork(entry.below, entry.item, entry.above)),
-            Node::Fork(mut below, item, _, mut above) => match entry.item.0.cmp(&item.0) {
+            Node::Fork(mut below, item, height, mut above) => match entry.item.0.cmp(&item.0) {
                 Ordering::Less => {
+                    let was = below.height();
                     below.put(entry);
-                    *self = NameTree::of(balanced(below, item, above));
+                    let same = below.height() == was;
+                    *self = NameTree::of(settled(below, item, height, above, same));
                 }
-                Ordering::Equal => *self = NameTree::of(fork(below, entry.item, above)),
+                Ordering::Equal => {
+                    *self = NameTree::of(Node::Fork(below, entry.item, height, above));
+                }
                 Ordering::Greater => {
+                    let was = above.height();
                     above.put(entry);
-                    *self = NameTree::of(balanced(below, item, above));
+                    let same = above.height() == was;
+                    *self = NameTree::of(settled(below, item, height, above, same));
                 }
             },
         }
@@ -67,10 +73,12 @@ impl NameTree {
     {
         match self.take() {
             Node::Leaf => None,
-            Node::Fork(mut below, item, _, mut above) => match name.cmp(&item.0) {
+            Node::Fork(mut below, item, height, mut above) => match name.cmp(&item.0) {
                 Ordering::Less => {
+                    let was = below.height();
                     let gone = below.remove(name);
-                    *self = NameTree::of(balanced(below, item, above));
+                    let same = below.height() == was;
+                    *self = NameTree::of(settled(below, item, height, above, same));
                     gone
                 }
                 Ordering::Equal => {
@@ -79,8 +87,10 @@ impl NameTree {
                     Some(Entry { item, below, above })
                 }
                 Ordering::Greater => {
+                    let was = above.height();
                     let gone = above.remove(name);
-                    *self = NameTree::of(balanced(below, item, above));
+                    let same = above.height() == was;
+                    *self = NameTree::of(settled(below, item, height, above, same));
                     gone
                 }
             },
@@ -113,21 +123,21 @@ impl NameTree {
     {
         match self.take() {
             Node::Leaf => false,
-            Node::Fork(mut below, mut item, _, mut above) => match name.cmp(&item.0) {
+            Node::Fork(mut below, mut item, height, mut above) => match name.cmp(&item.0) {
                 Ordering::Less => {
                     let touched = below.touch(name, mtime);
-                    *self = NameTree::of(fork(below, item, above));
+                    *self = NameTree::of(Node::Fork(below, item, height, above));
                     touched
                 }
                 Ordering::Equal => {
                     item.0 = *name;
                     item.1.mtime = mtime;
-                    *self = NameTree::of(fork(below, item, above));
+                    *self = NameTree::of(Node::Fork(below, item, height, above));
                     true
                 }
                 Ordering::Greater => {
                     let touched = above.touch(name, mtime);
-                    *self = NameTree::of(fork(below, item, above));
+                    *self = NameTree::of(Node::Fork(below, item, height, above));
                     touched
                 }
             },
@@ -220,6 +230,23 @@ fn joined(
             (node, below, above)
         }
     }
+}
+
+// A fork of two sides, as high as it was where both are, so that the other side need not be looked at.
+fn settled(
+    below: Box<NameTree>,
+    item: (Name, Stored),
+    height: u64,
+    above: Box<NameTree>,
+    same: bool,
+) -> Node
+    requires { IsAscending (below.value ++ item ∷ above.value) }
+    ensures { entries result ≡ below.value ++ item ∷ above.value }
+{
+    if same {
+        return Node::Fork(below, item, height, above);
+    }
+    balanced(below, item, above)
 }
 
 // A fork of two sides that one entry has changed, at nearly the same height again.

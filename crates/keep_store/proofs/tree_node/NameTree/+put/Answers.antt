@@ -7,8 +7,8 @@ use Rattle.keep_store.proofs.tree_node.NameTree.+put.Goals as goal
 pub of-requires : goal.of-requires
 of-requires t c = subst IsAscending (sym c.fork.ensures) (one-ascends c.entry.inside.below.value c.entry.inside.above.value c.entry.inside.item c.entry.invariant.0 c.entry.invariant.1)
 
-pub balanced-requires : goal.balanced-requires
-balanced-requires t c =
+pub settled-requires : goal.settled-requires
+settled-requires t c =
     let less : name_cmp c.args.entry.0 c.in-Fork.item.0 ≡ Less = search rules in
     let low : c.put.new.self ≡ put c.args.entry.0 c.args.entry.1 c.in-Fork.below.value = search rules in
     rw low (put-low-ascends _ _ _ c.in-Fork.ensures.ascending c.args.entry.0 less c.args.entry.1)
@@ -17,16 +17,16 @@ pub of-requires-in-Less : goal.of-requires-in-Less
 of-requires-in-Less t c =
     let less : name_cmp c.args.entry.0 c.in-Fork.item.0 ≡ Less = search rules in
     let low : c.put.new.self ≡ put c.args.entry.0 c.args.entry.1 c.in-Fork.below.value = search rules in
-    rw (c.balanced.ensures, low) (put-low-ascends _ _ _ c.in-Fork.ensures.ascending c.args.entry.0 less c.args.entry.1)
+    rw (c.settled.ensures, low) (put-low-ascends _ _ _ c.in-Fork.ensures.ascending c.args.entry.0 less c.args.entry.1)
 
 pub of-requires-in-Equal : goal.of-requires-in-Equal
 of-requires-in-Equal t c =
     let equal : name_cmp c.args.entry.0 c.in-Fork.item.0 ≡ Equal = search rules in
     let own : c.entry-in-Fork.inside.item ≡ c.args.entry = c.entry-in-Fork.view_is in
-    rw (c.fork-in-Equal.ensures, own) (put-own-ascends _ _ _ c.in-Fork.ensures.ascending c.args.entry.0 equal c.args.entry.1)
+    rw own (put-own-ascends _ _ _ c.in-Fork.ensures.ascending c.args.entry.0 equal c.args.entry.1)
 
-pub balanced-requires-in-Greater : goal.balanced-requires-in-Greater
-balanced-requires-in-Greater t c =
+pub settled-requires-in-Greater : goal.settled-requires-in-Greater
+settled-requires-in-Greater t c =
     let greater : name_cmp c.args.entry.0 c.in-Fork.item.0 ≡ Greater = search rules in
     let high : c.put-in-Greater.new.self ≡ put c.args.entry.0 c.args.entry.1 c.in-Fork.above.value = search rules in
     rw high (put-high-ascends _ _ _ c.in-Fork.ensures.ascending c.args.entry.0 greater c.args.entry.1)
@@ -35,21 +35,21 @@ pub of-requires-in-Greater : goal.of-requires-in-Greater
 of-requires-in-Greater t c =
     let greater : name_cmp c.args.entry.0 c.in-Fork.item.0 ≡ Greater = search rules in
     let high : c.put-in-Greater.new.self ≡ put c.args.entry.0 c.args.entry.1 c.in-Fork.above.value = search rules in
-    rw (c.balanced-in-Greater.ensures, high) (put-high-ascends _ _ _ c.in-Fork.ensures.ascending c.args.entry.0 greater c.args.entry.1)
+    rw (c.settled-in-Greater.ensures, high) (put-high-ascends _ _ _ c.in-Fork.ensures.ascending c.args.entry.0 greater c.args.entry.1)
 
 pub returns-in-Less : goal.returns-in-Less
 returns-in-Less t c =
     let less : name_cmp c.args.entry.0 c.in-Fork.item.0 ≡ Less = search rules in
     let low : c.put.new.self ≡ put c.args.entry.0 c.args.entry.1 c.in-Fork.below.value = search rules in
-    rw (← c.in-Fork.ensures.entries) (cc (c.of-in-Less.ensures, c.balanced.ensures, low, put-low _ _ _ c.in-Fork.ensures.ascending c.args.entry.0 less c.args.entry.1))
+    rw (← c.in-Fork.ensures.entries) (cc (c.of-in-Less.ensures, c.settled.ensures, low, put-low _ _ _ c.in-Fork.ensures.ascending c.args.entry.0 less c.args.entry.1))
 
 pub returns-in-Equal : goal.returns-in-Equal
 returns-in-Equal t c =
     let equal : name_cmp c.args.entry.0 c.in-Fork.item.0 ≡ Equal = search rules in
-    rw (← c.in-Fork.ensures.entries) (cc (c.of-in-Equal.ensures, c.fork-in-Equal.ensures, c.entry-in-Fork.view_is, put-own _ _ _ c.in-Fork.ensures.ascending c.args.entry.0 equal c.args.entry.1))
+    rw (← c.in-Fork.ensures.entries) (cc (c.of-in-Equal.ensures, c.entry-in-Fork.view_is, put-own _ _ _ c.in-Fork.ensures.ascending c.args.entry.0 equal c.args.entry.1))
 
 pub returns-in-Greater : goal.returns-in-Greater
 returns-in-Greater t c =
     let greater : name_cmp c.args.entry.0 c.in-Fork.item.0 ≡ Greater = search rules in
     let high : c.put-in-Greater.new.self ≡ put c.args.entry.0 c.args.entry.1 c.in-Fork.above.value = search rules in
-    rw (← c.in-Fork.ensures.entries) (cc (c.of-in-Greater.ensures, c.balanced-in-Greater.ensures, high, put-high _ _ _ c.in-Fork.ensures.ascending c.args.entry.0 greater c.args.entry.1))
+    rw (← c.in-Fork.ensures.entries) (cc (c.of-in-Greater.ensures, c.settled-in-Greater.ensures, high, put-high _ _ _ c.in-Fork.ensures.ascending c.args.entry.0 greater c.args.entry.1))

@@ -4,8 +4,8 @@ use Rattle.keep_event.specs.Store.{without, name_cmp}
 use Rattle.keep_store.proofs.Trees.{at_low, at_high, cut-own, without-low, without-own, without-high, without-low-ascends, without-own-ascends, without-high-ascends}
 use Rattle.keep_store.proofs.tree_node.NameTree.+remove.Goals as goal
 
-pub balanced-requires : goal.balanced-requires
-balanced-requires t c =
+pub settled-requires : goal.settled-requires
+settled-requires t c =
     let less : name_cmp c.args.name.now c.in-Fork.item.0 ≡ Less = search rules in
     let low : c.remove-gone.new.self ≡ without c.args.name.now c.in-Fork.below.value = search rules in
     rw low (without-low-ascends _ _ _ c.in-Fork.ensures.ascending c.args.name.now less)
@@ -14,7 +14,7 @@ pub of-requires : goal.of-requires
 of-requires t c =
     let less : name_cmp c.args.name.now c.in-Fork.item.0 ≡ Less = search rules in
     let low : c.remove-gone.new.self ≡ without c.args.name.now c.in-Fork.below.value = search rules in
-    rw (c.balanced.ensures, low) (without-low-ascends _ _ _ c.in-Fork.ensures.ascending c.args.name.now less)
+    rw (c.settled.ensures, low) (without-low-ascends _ _ _ c.in-Fork.ensures.ascending c.args.name.now less)
 
 pub joined-node-requires : goal.joined-node-requires
 joined-node-requires t c =
@@ -26,8 +26,8 @@ of-requires-in-Equal t c =
     let equal : name_cmp c.args.name.now c.in-Fork.item.0 ≡ Equal = search rules in
     rw c.joined-node.ensures.entries (without-own-ascends _ _ _ c.in-Fork.ensures.ascending c.args.name.now equal)
 
-pub balanced-requires-in-Greater : goal.balanced-requires-in-Greater
-balanced-requires-in-Greater t c =
+pub settled-requires-in-Greater : goal.settled-requires-in-Greater
+settled-requires-in-Greater t c =
     let greater : name_cmp c.args.name.now c.in-Fork.item.0 ≡ Greater = search rules in
     let high : c.remove-gone-in-Greater.new.self ≡ without c.args.name.now c.in-Fork.above.value = search rules in
     rw high (without-high-ascends _ _ _ c.in-Fork.ensures.ascending c.args.name.now greater)
@@ -36,7 +36,7 @@ pub of-requires-in-Greater : goal.of-requires-in-Greater
 of-requires-in-Greater t c =
     let greater : name_cmp c.args.name.now c.in-Fork.item.0 ≡ Greater = search rules in
     let high : c.remove-gone-in-Greater.new.self ≡ without c.args.name.now c.in-Fork.above.value = search rules in
-    rw (c.balanced-in-Greater.ensures, high) (without-high-ascends _ _ _ c.in-Fork.ensures.ascending c.args.name.now greater)
+    rw (c.settled-in-Greater.ensures, high) (without-high-ascends _ _ _ c.in-Fork.ensures.ascending c.args.name.now greater)
 
 pub returns-in-Less-clause-value : goal.returns-in-Less-clause-value
 returns-in-Less-clause-value t c =
@@ -47,7 +47,7 @@ pub returns-in-Less-clause-after : goal.returns-in-Less-clause-after
 returns-in-Less-clause-after t c =
     let less : name_cmp c.args.name.now c.in-Fork.item.0 ≡ Less = search rules in
     let low : c.remove-gone.new.self ≡ without c.args.name.now c.in-Fork.below.value = search rules in
-    rw (← c.in-Fork.ensures.entries) (cc (c.of.ensures, c.balanced.ensures, low, without-low _ _ _ c.in-Fork.ensures.ascending c.args.name.now less))
+    rw (← c.in-Fork.ensures.entries) (cc (c.of.ensures, c.settled.ensures, low, without-low _ _ _ c.in-Fork.ensures.ascending c.args.name.now less))
 
 pub returns-in-Equal-clause-value : goal.returns-in-Equal-clause-value
 returns-in-Equal-clause-value t c =
@@ -68,4 +68,4 @@ pub returns-in-Greater-clause-after : goal.returns-in-Greater-clause-after
 returns-in-Greater-clause-after t c =
     let greater : name_cmp c.args.name.now c.in-Fork.item.0 ≡ Greater = search rules in
     let high : c.remove-gone-in-Greater.new.self ≡ without c.args.name.now c.in-Fork.above.value = search rules in
-    rw (← c.in-Fork.ensures.entries) (cc (c.of-in-Greater.ensures, c.balanced-in-Greater.ensures, high, without-high _ _ _ c.in-Fork.ensures.ascending c.args.name.now greater))
+    rw (← c.in-Fork.ensures.entries) (cc (c.of-in-Greater.ensures, c.settled-in-Greater.ensures, high, without-high _ _ _ c.in-Fork.ensures.ascending c.args.name.now greater))

@@ -9,7 +9,7 @@ pub of-requires : goal.of-requires
 of-requires t c =
     let less : name_cmp c.args.name.now c.in-Fork.item.0 ≡ Less = search rules in
     let low : c.touch-touched.new.self ≡ touch c.args.name.now c.args.mtime c.in-Fork.below.value (find c.args.name.now c.in-Fork.below.value) = search rules in
-    rw (c.fork.ensures, low) (change-low-ascends _ _ _ c.in-Fork.ensures.ascending c.args.name.now less (with_time c.args.mtime))
+    rw low (change-low-ascends _ _ _ c.in-Fork.ensures.ascending c.args.name.now less (with_time c.args.mtime))
 
 pub returns-in-Less-clause-value : goal.returns-in-Less-clause-value
 returns-in-Less-clause-value t c =
@@ -20,12 +20,12 @@ pub returns-in-Less-clause-after : goal.returns-in-Less-clause-after
 returns-in-Less-clause-after t c =
     let less : name_cmp c.args.name.now c.in-Fork.item.0 ≡ Less = search rules in
     let low : c.touch-touched.new.self ≡ touch c.args.name.now c.args.mtime c.in-Fork.below.value (find c.args.name.now c.in-Fork.below.value) = search rules in
-    rw (← c.in-Fork.ensures.entries) (cc (c.of.ensures, c.fork.ensures, low, change-low _ _ _ c.in-Fork.ensures.ascending c.args.name.now less (with_time c.args.mtime)))
+    rw (← c.in-Fork.ensures.entries) (cc (c.of.ensures, low, change-low _ _ _ c.in-Fork.ensures.ascending c.args.name.now less (with_time c.args.mtime)))
 
 pub of-requires-in-Equal : goal.of-requires-in-Equal
 of-requires-in-Equal t c =
     let equal : name_cmp c.args.name.now c.in-Fork.item.0 ≡ Equal = search rules in
-    rw c.fork-in-Equal.ensures (change-own-ascends _ _ _ c.in-Fork.ensures.ascending c.args.name.now equal (with_time c.args.mtime))
+    (change-own-ascends _ _ _ c.in-Fork.ensures.ascending c.args.name.now equal (with_time c.args.mtime))
 
 pub returns-in-Equal-clause-value : goal.returns-in-Equal-clause-value
 returns-in-Equal-clause-value t c =
@@ -35,13 +35,13 @@ returns-in-Equal-clause-value t c =
 pub returns-in-Equal-clause-after : goal.returns-in-Equal-clause-after
 returns-in-Equal-clause-after t c =
     let equal : name_cmp c.args.name.now c.in-Fork.item.0 ≡ Equal = search rules in
-    rw (← c.in-Fork.ensures.entries) (cc (c.of-in-Equal.ensures, c.fork-in-Equal.ensures, change-own _ _ _ c.in-Fork.ensures.ascending c.args.name.now equal (with_time c.args.mtime)))
+    rw (← c.in-Fork.ensures.entries) (cc (c.of-in-Equal.ensures, change-own _ _ _ c.in-Fork.ensures.ascending c.args.name.now equal (with_time c.args.mtime)))
 
 pub of-requires-in-Greater : goal.of-requires-in-Greater
 of-requires-in-Greater t c =
     let greater : name_cmp c.args.name.now c.in-Fork.item.0 ≡ Greater = search rules in
     let high : c.touch-touched-in-Greater.new.self ≡ touch c.args.name.now c.args.mtime c.in-Fork.above.value (find c.args.name.now c.in-Fork.above.value) = search rules in
-    rw (c.fork-in-Greater.ensures, high) (change-high-ascends _ _ _ c.in-Fork.ensures.ascending c.args.name.now greater (with_time c.args.mtime))
+    rw high (change-high-ascends _ _ _ c.in-Fork.ensures.ascending c.args.name.now greater (with_time c.args.mtime))
 
 pub returns-in-Greater-clause-value : goal.returns-in-Greater-clause-value
 returns-in-Greater-clause-value t c =
@@ -52,4 +52,4 @@ pub returns-in-Greater-clause-after : goal.returns-in-Greater-clause-after
 returns-in-Greater-clause-after t c =
     let greater : name_cmp c.args.name.now c.in-Fork.item.0 ≡ Greater = search rules in
     let high : c.touch-touched-in-Greater.new.self ≡ touch c.args.name.now c.args.mtime c.in-Fork.above.value (find c.args.name.now c.in-Fork.above.value) = search rules in
-    rw (← c.in-Fork.ensures.entries) (cc (c.of-in-Greater.ensures, c.fork-in-Greater.ensures, high, change-high _ _ _ c.in-Fork.ensures.ascending c.args.name.now greater (with_time c.args.mtime)))
+    rw (← c.in-Fork.ensures.entries) (cc (c.of-in-Greater.ensures, high, change-high _ _ _ c.in-Fork.ensures.ascending c.args.name.now greater (with_time c.args.mtime)))
