@@ -36,6 +36,13 @@ IsAsked (queries.Restore token collection) = ⊤
 IsAsked queries.Sweep = ⊤
 IsAsked (queries.Scan round after limit) = 0 < limit
 
+-- a query that names a collection and stores no record
+abbrev pub IsAboutCollection : TableQuery → Type 0
+IsAboutCollection (queries.Read token collection version) = ⊤
+IsAboutCollection (queries.SetTrash token collection trash_at delete_at) = ⊤
+IsAboutCollection (queries.Restore token collection) = ⊤
+IsAboutCollection other = ⊥
+
 -- a locator needs no signature, or has a valid one for a token at a reading
 abbrev pub IsSigned : Configuration → List ℕ → ℕ → List ℕ → Type 0
 IsSigned c token reading locator = IsTrue (is_empty_block locator) ⊎ IsOk (verdict locator token c.ttl c.secret reading)

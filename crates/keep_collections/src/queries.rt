@@ -4,7 +4,7 @@ ghost use Rattle.keep_event.specs.Table.{has_room};
 ghost use Rattle.keep_event.specs.Table as machine;
 ghost use Rattle.keep_event.specs.Requests as requests;
 ghost use Rattle.keep_table.specs.Contents.{IsLine, is_updated};
-ghost use Rattle.keep_collections.specs.Verdicts.{IsAsked, IsGood, IsGoodUpdate, is_saved};
+ghost use Rattle.keep_collections.specs.Verdicts.{IsAboutCollection, IsAsked, IsGood, IsGoodUpdate, is_saved};
 
 use crate::request::{Verdict, judged};
 use keep_config::Config;
@@ -133,6 +133,53 @@ fn restore(
     }
 }
 
+// What the table answers to a read, a trash or a restore, which name a collection and store no record.
+fn answer_about_collection(
+    table: &mut Table,
+    config: &Config,
+    reading: u64,
+    query: &TableQuery,
+) -> Result<TableAnswer, NoMemory>
+    requires rules { table.old.rules ≡ requests.rules_of config.now }
+    requires reading { reading < 4 * 10 ^ 18 }
+    requires asked { IsAsked query.now }
+    requires about { IsAboutCollection query.now }
+    ensures { IsLine (requests.table_line config.now reading query.now table.old.state) table.old table.new result }
+{
+    match query {
+        TableQuery::Read {
+            token,
+            collection,
+            version,
+        } => read(
+            table,
+            config,
+            reading,
+            token.as_slice(),
+            *collection,
+            *version,
+        ),
+        TableQuery::SetTrash {
+            token,
+            collection,
+            trash_at,
+            delete_at,
+        } => set_trash(
+            table,
+            config,
+            reading,
+            token.as_slice(),
+            *collection,
+            *trash_at,
+            *delete_at,
+        ),
+        TableQuery::Restore { token, collection } => {
+            restore(table, config, token.as_slice(), *collection)
+        }
+        _ => unreachable!(),
+    }
+}
+
 /// What the table answers to a query at a reading (nanoseconds since 1970).
 pub fn answer(
     alloc: Global,
@@ -163,35 +210,9 @@ pub fn answer(
             *preserve,
             request,
         ),
-        TableQuery::Read {
-            token,
-            collection,
-            version,
-        } => read(
-            table,
-            config,
-            reading,
-            token.as_slice(),
-            *collection,
-            *version,
-        ),
-        TableQuery::SetTrash {
-            token,
-            collection,
-            trash_at,
-            delete_at,
-        } => set_trash(
-            table,
-            config,
-            reading,
-            token.as_slice(),
-            *collection,
-            *trash_at,
-            *delete_at,
-        ),
-        TableQuery::Restore { token, collection } => {
-            restore(table, config, token.as_slice(), *collection)
-        }
+        TableQuery::Read { .. } => answer_about_collection(table, config, reading, query),
+        TableQuery::SetTrash { .. } => answer_about_collection(table, config, reading, query),
+        TableQuery::Restore { .. } => answer_about_collection(table, config, reading, query),
         TableQuery::Sweep => table.sweep(reading),
         TableQuery::Scan {
             round,

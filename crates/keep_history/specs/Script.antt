@@ -103,21 +103,23 @@ put_of_data d =
     (option_and_then bytes_of_text (text_at (codes "bytes") d)))
     (server_at d)) (text_at (codes "token") d)
 
+-- a block asked for: a token, a server and a locator
+abbrev pub BlockRequest : Type 0
+BlockRequest = List ℕ × ℕ × List ℕ
+
 -- `open`, `at`, `do`, `token`, `server` and `locator`
-abbrev pub get_of_data : Names → Data → Option Opening
-get_of_data names d =
+abbrev pub block_request_of_data : Names → Data → Option BlockRequest
+block_request_of_data names d =
     option_and_then (λ token. option_and_then (λ server. option_and_then (λ locator.
-    if has_members 6 d then Some (O.Get token server locator) else None)
+    if has_members 6 d then Some (token, server, locator) else None)
     (option_and_then (locator_of_data names) (get (codes "locator") d)))
     (server_at d)) (text_at (codes "token") d)
 
--- `open`, `at`, `do`, `token`, `server` and `locator`
+abbrev pub get_of_data : Names → Data → Option Opening
+get_of_data names d = option_map (λ r. O.Get r.0 r.1 r.2) (block_request_of_data names d)
+
 abbrev pub touch_of_data : Names → Data → Option Opening
-touch_of_data names d =
-    option_and_then (λ token. option_and_then (λ server. option_and_then (λ locator.
-    if has_members 6 d then Some (O.Touch token server locator) else None)
-    (option_and_then (locator_of_data names) (get (codes "locator") d)))
-    (server_at d)) (text_at (codes "token") d)
+touch_of_data names d = option_map (λ r. O.Touch r.0 r.1 r.2) (block_request_of_data names d)
 
 -- a text at a name that makes a digest
 abbrev pub digest_at : List ℕ → Data → Option (List ℕ)

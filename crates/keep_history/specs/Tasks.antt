@@ -291,12 +291,16 @@ abbrev pub signed_text : Configuration → List ℕ → Option ℕ → List ℕ 
 signed_text c token None text = text
 signed_text c token (Some expiry) text = if is_some (manifest_of text) then with_locators (signed token expiry c.ttl c.secret) text else text
 
+-- what was set, brought back or swept goes into the end as it was answered; any other answer refused what was asked
+abbrev pub end_as_answered : TableAnswer → Outcome
+end_as_answered (TA.TrashSet trash_at delete_at) = O.TrashSet trash_at delete_at
+end_as_answered TA.Restored = O.Restored
+end_as_answered (TA.Swept versions collections) = O.Swept versions collections
+end_as_answered answer = O.Refused answer
+
 -- how the table's answer ends a task
 unfoldable pub table_end : Configuration → TableQuery → TableAnswer → Outcome
 table_end c q (TA.Saved n version portable) = O.Saved (collection_uuid c n) version portable
 table_end c q (TA.Updated n version portable) = O.Updated (collection_uuid c n) version portable
 table_end c q (TA.Row n version expiry want trash_at text) = O.Row version want trash_at (signed_text c (token_of_query q) expiry text)
-table_end c q (TA.TrashSet trash_at delete_at) = O.TrashSet trash_at delete_at
-table_end c q TA.Restored = O.Restored
-table_end c q (TA.Swept versions collections) = O.Swept versions collections
-table_end c q answer = O.Refused answer
+table_end c q answer = end_as_answered answer

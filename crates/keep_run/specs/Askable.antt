@@ -1,6 +1,8 @@
--- Tasks that may be asked: what they ask of the table is in its form. For private clauses.
+-- Tasks that may be asked: what they ask of the table is in its form; and openings that ask it. For private clauses.
 use Rattle.std.specs.Prelude.{⊤}
 use Rattle.std.specs.List.{AllByRecursion}
+use Rattle.keep_event.specs.declared.task.Opening.{Opening}
+use Rattle.keep_event.specs.declared.task.Opening.TheVariants as Open
 use Rattle.keep_event.specs.declared.task.Task.{Task}
 use Rattle.keep_event.specs.declared.task.Task.TheVariants as T
 use Rattle.keep_event.specs.declared.task.TaskState.{TaskState}
@@ -19,3 +21,12 @@ IsAskableState _ = ⊤
 -- each task that is open may be asked
 abbrev pub AreAskable : Names → Type 0
 AreAskable names = AllByRecursion (λ n. IsAskableState n.1) names
+
+-- an opening that asks the table
+abbrev pub AsksTable : Opening → Type 0
+AsksTable (Open.Put token server bytes hash) = ⊥
+AsksTable (Open.Get token server locator) = ⊥
+AsksTable (Open.Touch token server locator) = ⊥
+AsksTable (Open.Untrash token server hash) = ⊥
+AsksTable (Open.Restart device) = ⊥
+AsksTable other = ⊤

@@ -3,7 +3,7 @@ ghost use Rattle.std.specs.Prelude.{◌≡◌, ◌≤◌, ◌<◌, ◌^◌, ◌+
 ghost use Rattle.keep_event.specs.Requests.{rules_of as table_rules_of, table_line};
 ghost use Rattle.keep_history.specs.Effects.{rules_of};
 ghost use Rattle.keep_history.specs.Printed.{table_event_line};
-ghost use Rattle.keep_history.specs.Tasks.{collection_number, collection_uuid, padded, kind_of_collections, signed_text, table_end, token_of_query};
+ghost use Rattle.keep_history.specs.Tasks.{collection_number, collection_uuid, padded, end_as_answered, kind_of_collections, signed_text, table_end, token_of_query};
 ghost use Rattle.keep_collections.specs.Verdicts.{IsAsked};
 ghost use Rattle.keep_run.specs.Asked.{IsTableAsked, IsTaskDone, IsTaskStopped};
 ghost use Rattle.keep_run.specs.Commands.{AreFew, RisesByOne};
@@ -122,6 +122,30 @@ fn token_of_query(query: &TableQuery) -> &[u8]
     }
 }
 
+// The end of an answer that goes into it as it is.
+fn end_as_answered(answer: TableAnswer) -> Outcome
+    ensures { result ≡ end_as_answered answer }
+{
+    match answer {
+        TableAnswer::TrashSet {
+            trash_at,
+            delete_at,
+        } => Outcome::TrashSet {
+            trash_at,
+            delete_at,
+        },
+        TableAnswer::Restored => Outcome::Restored,
+        TableAnswer::Swept {
+            versions,
+            collections,
+        } => Outcome::Swept {
+            versions,
+            collections,
+        },
+        _ => Outcome::Refused { answer },
+    }
+}
+
 // How the table's answer ends a task.
 #[tactic(auto, unfolding(keep_history::specs::Tasks::table_end))]
 fn table_outcome(
@@ -137,26 +161,20 @@ fn table_outcome(
             number,
             version,
             portable,
-        } => {
-            let uuid = collection_uuid(alloc, config, number)?;
-            Ok(Outcome::Saved {
-                uuid,
-                version,
-                portable,
-            })
-        }
+        } => Ok(Outcome::Saved {
+            uuid: collection_uuid(alloc, config, number)?,
+            version,
+            portable,
+        }),
         TableAnswer::Updated {
             number,
             version,
             portable,
-        } => {
-            let uuid = collection_uuid(alloc, config, number)?;
-            Ok(Outcome::Updated {
-                uuid,
-                version,
-                portable,
-            })
-        }
+        } => Ok(Outcome::Updated {
+            uuid: collection_uuid(alloc, config, number)?,
+            version,
+            portable,
+        }),
         TableAnswer::Row {
             number: _,
             version,
@@ -164,31 +182,13 @@ fn table_outcome(
             want,
             trash_at,
             text,
-        } => {
-            let text = signed_text(alloc, config, token_of_query(query), expiry, text)?;
-            Ok(Outcome::Row {
-                version,
-                want,
-                trash_at,
-                text,
-            })
-        }
-        TableAnswer::TrashSet {
+        } => Ok(Outcome::Row {
+            version,
+            want,
             trash_at,
-            delete_at,
-        } => Ok(Outcome::TrashSet {
-            trash_at,
-            delete_at,
+            text: signed_text(alloc, config, token_of_query(query), expiry, text)?,
         }),
-        TableAnswer::Restored => Ok(Outcome::Restored),
-        TableAnswer::Swept {
-            versions,
-            collections,
-        } => Ok(Outcome::Swept {
-            versions,
-            collections,
-        }),
-        _ => Ok(Outcome::Refused { answer }),
+        _ => Ok(end_as_answered(answer)),
     }
 }
 

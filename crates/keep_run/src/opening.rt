@@ -1,6 +1,7 @@
 // What an opening makes of itself: a task, or its end at once.
-ghost use Rattle.std.specs.Prelude.{◌≡◌, IfOk, length, [], ◌∷◌, if◌then◌else◌};
+ghost use Rattle.std.specs.Prelude.{◌≡◌, ℕ, IfOk, length, [], ◌∷◌, if◌then◌else◌};
 ghost use Rattle.keep_history.specs.Tasks.{opened, put_opened, get_opened, touch_opened, untrash_opened, where_writable, permitted_block, asks_table, by_verdict, has_other_digest, writable};
+ghost use Rattle.keep_run.specs.Askable.{AsksTable};
 
 use crate::collections::collection_number;
 use keep_config::Config;
@@ -91,13 +92,13 @@ fn open_get(
     alloc: Global,
     config: &Config,
     id: TokenId,
-    token: &[u8],
-    text: &[u8],
+    token: &Bytes,
+    text: &Bytes,
     reading: u64,
 ) -> Result<Task, Outcome>
     ensures { result ≡ get_opened config.now id token.now text.now reading }
 {
-    let locator = match Locator::read(text) {
+    let locator = match Locator::read(text.as_slice()) {
         Ok(locator) => locator,
         Err(error) => {
             return Err(Outcome::BadLocator {
@@ -110,7 +111,7 @@ fn open_get(
             bytes: Bytes::of(Vec::new(alloc)),
         });
     }
-    match permitted(config, id, token, &locator, reading) {
+    match permitted(config, id, token.as_slice(), &locator, reading) {
         Ok(digest) => Ok(Task::Get { digest }),
         Err(outcome) => Err(outcome),
     }
@@ -132,13 +133,13 @@ fn open_touch(
     config: &Config,
     id: TokenId,
     token: Bytes,
-    text: &[u8],
+    text: &Bytes,
     reading: u64,
 ) -> Result<Result<Task, Outcome>, NoMemory>
     requires { length config.now.devices ≡ 1 }
     ensures { IfOk result (λ r. r ≡ touch_opened config.now id token text.now reading) }
 {
-    let locator = match Locator::read(text) {
+    let locator = match Locator::read(text.as_slice()) {
         Ok(locator) => locator,
         Err(error) => {
             return Ok(Err(Outcome::BadLocator {
@@ -175,6 +176,52 @@ fn open_untrash(config: &Config, id: TokenId, digest: Digest) -> Result<Task, Ou
     }
 }
 
+// The query of an opening that asks the table.
+#[tactic(auto, unfolding(keep_history::specs::Tasks::opened))]
+fn table_query(alloc: Global, config: &Config, opening: Opening) -> Result<TableQuery, NoMemory>
+    requires { AsksTable opening }
+    ensures { IfOk result (λ query. (reading : ℕ) → opened config.now opening reading ≡ asks_table query) }
+{
+    match opening {
+        Opening::Save { request } => Ok(TableQuery::Save { request }),
+        Opening::Update {
+            collection,
+            preserve,
+            request,
+        } => Ok(TableQuery::Update {
+            collection: collection_number(alloc, config, collection.as_slice())?,
+            preserve,
+            request,
+        }),
+        Opening::Read {
+            token,
+            collection,
+            version,
+        } => Ok(TableQuery::Read {
+            token,
+            collection: collection_number(alloc, config, collection.as_slice())?,
+            version,
+        }),
+        Opening::Trash {
+            token,
+            collection,
+            trash_at,
+            delete_at,
+        } => Ok(TableQuery::SetTrash {
+            token,
+            collection: collection_number(alloc, config, collection.as_slice())?,
+            trash_at,
+            delete_at,
+        }),
+        Opening::Restore { token, collection } => Ok(TableQuery::Restore {
+            token,
+            collection: collection_number(alloc, config, collection.as_slice())?,
+        }),
+        Opening::Sweep => Ok(TableQuery::Sweep),
+        _ => unreachable!(),
+    }
+}
+
 /// What an opening makes of itself at a reading: a task, or its end at once.
 #[tactic(auto, unfolding(keep_history::specs::Tasks::opened))]
 pub(crate) fn opened(
@@ -201,14 +248,7 @@ pub(crate) fn opened(
             server: _,
             locator,
         } => match config.token(token.as_slice()) {
-            Some(id) => Ok(open_get(
-                alloc,
-                config,
-                id,
-                token.as_slice(),
-                locator.as_slice(),
-                reading,
-            )),
+            Some(id) => Ok(open_get(alloc, config, id, &token, &locator, reading)),
             None => Ok(Err(Outcome::UnknownToken)),
         },
         Opening::Touch {
@@ -216,7 +256,7 @@ pub(crate) fn opened(
             server: _,
             locator,
         } => match config.token(token.as_slice()) {
-            Some(id) => open_touch(alloc, config, id, token, locator.as_slice(), reading),
+            Some(id) => open_touch(alloc, config, id, token, &locator, reading),
             None => Ok(Err(Outcome::UnknownToken)),
         },
         Opening::Untrash {
@@ -228,56 +268,8 @@ pub(crate) fn opened(
             None => Ok(Err(Outcome::UnknownToken)),
         },
         Opening::Restart { device } => Ok(Ok(Task::Restart { device })),
-        Opening::Save { request } => asks_table(TableQuery::Save { request }),
-        Opening::Update {
-            collection,
-            preserve,
-            request,
-        } => {
-            let collection = collection_number(alloc, config, collection.as_slice())?;
-            asks_table(TableQuery::Update {
-                collection,
-                preserve,
-                request,
-            })
-        }
-        Opening::Read {
-            token,
-            collection,
-            version,
-        } => {
-            let collection = collection_number(alloc, config, collection.as_slice())?;
-            asks_table(TableQuery::Read {
-                token,
-                collection,
-                version,
-            })
-        }
-        Opening::Trash {
-            token,
-            collection,
-            trash_at,
-            delete_at,
-        } => {
-            let collection = collection_number(alloc, config, collection.as_slice())?;
-            asks_table(TableQuery::SetTrash {
-                token,
-                collection,
-                trash_at,
-                delete_at,
-            })
-        }
-        Opening::Restore { token, collection } => {
-            let collection = collection_number(alloc, config, collection.as_slice())?;
-            asks_table(TableQuery::Restore { token, collection })
-        }
-        Opening::Sweep => asks_table(TableQuery::Sweep),
+        _ => Ok(Ok(Task::Table {
+            query: table_query(alloc, config, opening)?,
+        })),
     }
-}
-
-// A task of one query to the table.
-fn asks_table(query: TableQuery) -> Result<Result<Task, Outcome>, NoMemory>
-    ensures { IfOk result (λ r. r ≡ asks_table query) }
-{
-    Ok(Ok(Task::Table { query }))
 }

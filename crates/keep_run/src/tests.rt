@@ -1,8 +1,9 @@
 // Runs whose output is known: signatures by another program's HMAC, digests by `md5sum`, the two texts with one digest as they were published.
 use crate::run_call;
 use keep_base::{ByteSink, ByteSource};
-use keep_spec::{Bytes, Field, Status};
-use keep_store::MemoryStore;
+use keep_event::{Held, Name};
+use keep_spec::{Bytes, Digest, Field, Status};
+use keep_store::{MemoryStore, Store};
 use std::alloc::{AllocError, Global};
 use std::test::Fail;
 
@@ -435,14 +436,15 @@ const PUT_TEXT_LENGTH: usize = 139;
 struct Ran {
     status: Status,
     text: Vec<u8>,
+    stores: Vec<MemoryStore>,
 }
 
-// The run of a script on one device in memory; the calls of store, source and sink with these numbers fail.
+// The run of a script on one device over a store; the calls of source and sink with these numbers fail.
 fn run(
     alloc: Global,
     word: &str,
     script: &str,
-    store: Vec<u64>,
+    store: MemoryStore,
     source: Vec<u64>,
     sink: Vec<u64>,
 ) -> Result<Ran, AllocError> {
@@ -450,15 +452,32 @@ fn run(
     let script = Bytes::of(Vec::from_slice(alloc, script.as_bytes())?);
     let mut source = ByteSource::new(script, source);
     let mut sink = ByteSink::new(alloc, sink);
-    let mut stores = vec![in alloc; MemoryStore::new(alloc, store)]?;
+    let mut stores = vec![in alloc; store]?;
     let status = run_call(alloc, &words, &mut source, &mut sink, &mut stores);
     let text = Vec::from_slice(alloc, sink.bytes())?;
-    Ok(Ran { status, text })
+    Ok(Ran {
+        status,
+        text,
+        stores,
+    })
+}
+
+fn empty_store(alloc: Global) -> MemoryStore {
+    MemoryStore::new(alloc, Vec::new(alloc))
+}
+
+// The run over a store where no call fails.
+fn run_over(
+    alloc: Global,
+    word: &str,
+    script: &str,
+    store: MemoryStore,
+) -> Result<Ran, AllocError> {
+    run(alloc, word, script, store, Vec::new(alloc), Vec::new(alloc))
 }
 
 fn run_well(alloc: Global, script: &str) -> Result<Ran, AllocError> {
-    let none = Vec::new(alloc);
-    run(alloc, "run", script, none, Vec::new(alloc), Vec::new(alloc))
+    run_over(alloc, "run", script, empty_store(alloc))
 }
 
 #[test]
@@ -502,7 +521,7 @@ fn ends_with_each_status(rt: HostRuntime) -> Result<(), Fail> {
 
 // The run of a put and a get whose calls of store, source and sink with these numbers fail.
 fn run_badly(alloc: Global, store: u64, source: u64, sink: u64) -> Result<Ran, AllocError> {
-    let store = vec![in alloc; store]?;
+    let store = MemoryStore::new(alloc, vec![in alloc; store]?);
     let source = vec![in alloc; source]?;
     run(
         alloc,
@@ -555,16 +574,32 @@ fn a_failing_store_is_told_at_its_event(rt: HostRuntime) -> Result<(), Fail> {
 #[test]
 fn other_words_are_refused(rt: HostRuntime) -> Result<(), Fail> {
     let alloc = rt.alloc();
-    let none = Vec::new(alloc);
-    let ran = run(
-        alloc,
-        "now",
-        PUT_AND_GET,
-        none,
-        Vec::new(alloc),
-        Vec::new(alloc),
-    )?;
+    let ran = run_over(alloc, "now", PUT_AND_GET, empty_store(alloc))?;
     assert_eq!(rt; ran.status, Status::BadWords);
     assert!(rt; ran.text.is_empty());
+    Ok(())
+}
+
+#[test]
+fn a_store_that_holds_a_name_is_refused_and_left_as_it_is(rt: HostRuntime) -> Result<(), Fail> {
+    let alloc = rt.alloc();
+    let name = Name {
+        digest: Digest::of_md5([7; 16]),
+        deadline: None,
+    };
+    let mut store = empty_store(alloc);
+    store.put(&name, 5, b"foo")?;
+    let mut ran = run_over(alloc, "run", PUT_AND_GET, store)?;
+    assert_eq!(rt; ran.status, Status::NotEmpty { device: 0 });
+    assert!(rt; ran.text.is_empty());
+    assert_eq!(rt; ran.stores.len(), 1);
+    let held = Held {
+        name,
+        mtime: 5,
+        size: 3,
+    };
+    for store in ran.stores.iter_mut() {
+        assert_eq!(rt; store.names_from(None, 2)?.as_slice(), [held].as_slice());
+    }
     Ok(())
 }

@@ -2,7 +2,7 @@
 ghost use Rattle.std.specs.Prelude.{◌≡◌, ◌<◌, ◌^◌, IfOk, IfSome, Option, None, Some, option_map, option_copied};
 ghost use Rattle.serde_json.specs.View.{view};
 ghost use Rattle.serde_json.specs.Find.{get};
-ghost use Rattle.keep_history.specs.Script.{digest_at, digest_of_data, ended_locator, get_of_data, locator_of_data, locator_of_reference, members_with, opening_of_kind, put_of_data, restart_of_data, touch_of_data, untrash_of_data, HasTimes};
+ghost use Rattle.keep_history.specs.Script.{block_request_of_data, digest_at, digest_of_data, ended_locator, get_of_data, locator_of_data, locator_of_reference, members_with, opening_of_kind, put_of_data, restart_of_data, touch_of_data, untrash_of_data, HasTimes};
 ghost use Rattle.keep_history.specs.Names.{state_of_name};
 
 use crate::collections::table_opening_of_kind;
@@ -69,13 +69,20 @@ fn put_of_value(alloc: Global, value: &Value) -> Result<Option<Opening>, NoMemor
     }))
 }
 
-fn get_of_value(
+// What a get and a touch ask for: a block by its locator.
+#[derive(Drop)]
+struct BlockRequest {
+    token: Bytes,
+    server: u32,
+    locator: Bytes,
+}
+
+fn block_request_of_value(
     alloc: Global,
     names: &BTreeMap<Bytes, TaskState>,
     value: &Value,
-) -> Result<Option<Opening>, NoMemory>
-    ensures opening { IfOk result (λ o. o ≡ get_of_data names.now.entries (view value.now)) }
-    ensures times { IfOk result (λ o. IfSome o HasTimes) }
+) -> Result<Option<BlockRequest>, NoMemory>
+    ensures { IfOk result (λ o. option_map (λ r. (r.token, r.server, r.locator)) o ≡ block_request_of_data names.now.entries (view value.now)) }
 {
     let Some(token) = text_at(value, "token") else {
         return Ok(None);
@@ -92,11 +99,35 @@ fn get_of_value(
     let Some(locator) = locator_of_value(alloc, names, found)? else {
         return Ok(None);
     };
-    Ok(Some(Opening::Get {
+    Ok(Some(BlockRequest {
         token: copied(alloc, token)?,
         server,
         locator,
     }))
+}
+
+fn get_of_value(
+    alloc: Global,
+    names: &BTreeMap<Bytes, TaskState>,
+    value: &Value,
+) -> Result<Option<Opening>, NoMemory>
+    ensures opening { IfOk result (λ o. o ≡ get_of_data names.now.entries (view value.now)) }
+    ensures times { IfOk result (λ o. IfSome o HasTimes) }
+{
+    match block_request_of_value(alloc, names, value)? {
+        Some(
+            BlockRequest {
+                token,
+                server,
+                locator,
+            },
+        ) => Ok(Some(Opening::Get {
+            token,
+            server,
+            locator,
+        })),
+        None => Ok(None),
+    }
 }
 
 fn touch_of_value(
@@ -107,26 +138,20 @@ fn touch_of_value(
     ensures opening { IfOk result (λ o. o ≡ touch_of_data names.now.entries (view value.now)) }
     ensures times { IfOk result (λ o. IfSome o HasTimes) }
 {
-    let Some(token) = text_at(value, "token") else {
-        return Ok(None);
-    };
-    let Some(server) = server_at(value) else {
-        return Ok(None);
-    };
-    let Some(found) = value.get("locator") else {
-        return Ok(None);
-    };
-    if !has_members(value, 6) {
-        return Ok(None);
+    match block_request_of_value(alloc, names, value)? {
+        Some(
+            BlockRequest {
+                token,
+                server,
+                locator,
+            },
+        ) => Ok(Some(Opening::Touch {
+            token,
+            server,
+            locator,
+        })),
+        None => Ok(None),
     }
-    let Some(locator) = locator_of_value(alloc, names, found)? else {
-        return Ok(None);
-    };
-    Ok(Some(Opening::Touch {
-        token: copied(alloc, token)?,
-        server,
-        locator,
-    }))
 }
 
 fn untrash_of_value(alloc: Global, value: &Value) -> Result<Option<Opening>, NoMemory>

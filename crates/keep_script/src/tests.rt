@@ -22,15 +22,30 @@ fn push_part(text: &mut Vec<u8>, part: &[u8]) -> Result<(), AllocError> {
     text.extend_from_slice(b" ")
 }
 
-fn push_kind(
+// What an opening at a server asks for, behind its kind, token and server.
+fn push_asked(
     text: &mut Vec<u8>,
     kind: &[u8],
     token: &Bytes,
     server: u32,
+    asked: &[u8],
 ) -> Result<(), AllocError> {
     push_part(text, kind)?;
     push_part(text, token.as_slice())?;
-    push_part(text, &[b'0' + (server % 10) as u8])
+    push_part(text, &[b'0' + (server % 10) as u8])?;
+    push_part(text, asked)
+}
+
+// A collection that is named, behind its kind and token.
+fn push_named(
+    text: &mut Vec<u8>,
+    kind: &[u8],
+    token: &Bytes,
+    collection: &Bytes,
+) -> Result<(), AllocError> {
+    push_part(text, kind)?;
+    push_part(text, token.as_slice())?;
+    push_part(text, collection.as_slice())
 }
 
 fn push_request(text: &mut Vec<u8>, request: &SaveRequest) -> Result<(), AllocError> {
@@ -51,8 +66,7 @@ fn push_opening(text: &mut Vec<u8>, opening: &Opening) -> Result<(), AllocError>
             bytes,
             digest,
         } => {
-            push_kind(text, b"put", token, *server)?;
-            push_part(text, bytes.as_slice())?;
+            push_asked(text, b"put", token, *server, bytes.as_slice())?;
             match digest {
                 Some(digest) => push_part(text, &digest.write()),
                 None => Ok(()),
@@ -62,30 +76,28 @@ fn push_opening(text: &mut Vec<u8>, opening: &Opening) -> Result<(), AllocError>
             token,
             server,
             locator,
-        } => {
-            push_kind(text, b"get", token, *server)?;
-            push_part(text, locator.as_slice())
-        }
+        } => push_asked(text, b"get", token, *server, locator.as_slice()),
         Opening::Touch {
             token,
             server,
             locator,
-        } => {
-            push_kind(text, b"touch", token, *server)?;
-            push_part(text, locator.as_slice())
-        }
+        } => push_asked(text, b"touch", token, *server, locator.as_slice()),
         Opening::Untrash {
             token,
             server,
             digest,
-        } => {
-            push_kind(text, b"untrash", token, *server)?;
-            push_part(text, &digest.write())
-        }
+        } => push_asked(text, b"untrash", token, *server, &digest.write()),
         Opening::Restart { device } => {
             push_part(text, b"restart")?;
             push_part(text, &[b'0' + (device % 10) as u8])
         }
+        _ => push_table_opening(text, opening),
+    }
+}
+
+// The openings that ask the table.
+fn push_table_opening(text: &mut Vec<u8>, opening: &Opening) -> Result<(), AllocError> {
+    match opening {
         Opening::Save { request } => {
             push_part(text, b"save")?;
             push_request(text, request)
@@ -105,9 +117,7 @@ fn push_opening(text: &mut Vec<u8>, opening: &Opening) -> Result<(), AllocError>
             collection,
             version,
         } => {
-            push_part(text, b"read")?;
-            push_part(text, token.as_slice())?;
-            push_part(text, collection.as_slice())?;
+            push_named(text, b"read", token, collection)?;
             push_part(text, if version.is_some() { b"old" } else { b"new" })
         }
         Opening::Trash {
@@ -115,17 +125,12 @@ fn push_opening(text: &mut Vec<u8>, opening: &Opening) -> Result<(), AllocError>
             collection,
             trash_at: _,
             delete_at: _,
-        } => {
-            push_part(text, b"trash")?;
-            push_part(text, token.as_slice())?;
-            push_part(text, collection.as_slice())
-        }
+        } => push_named(text, b"trash", token, collection),
         Opening::Restore { token, collection } => {
-            push_part(text, b"restore")?;
-            push_part(text, token.as_slice())?;
-            push_part(text, collection.as_slice())
+            push_named(text, b"restore", token, collection)
         }
         Opening::Sweep => push_part(text, b"sweep"),
+        _ => push_part(text, b"other"),
     }
 }
 
