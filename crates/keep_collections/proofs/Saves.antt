@@ -9,12 +9,13 @@ use Rattle.keep_spec.specs.Locator.{is_empty_block}
 use Rattle.keep_spec.specs.Portable.{portable_text}
 use Rattle.keep_spec.specs.Refusals.{bad, or_else}
 use Rattle.keep_spec.specs.Sign.{verdict}
+use Rattle.keep_spec.specs.Stripped.{portable_hash}
 use Rattle.keep_spec.specs.declared.manifest.Refusal.{Refusal}
 use Rattle.keep_spec.specs.declared.portable.Portable.{Portable}
 use Rattle.keep_spec.specs.declared.token.TokenId.{TokenId}
 use Rattle.keep_spec.specs.declared.unverified.Triple.{Triple}
 use Rattle.keep_spec.specs.declared.unverified.Unverified.{Unverified}
-use Rattle.keep_event.specs.Requests.{refused_at, bad_manifest, bad_signature, cause_of, unsigned_because, first_unsigned, locators_of, portable_hash, wrong_hash, bad_want, refusal_of_request}
+use Rattle.keep_event.specs.Requests.{refused_at, bad_manifest, bad_signature, cause_of, unsigned_because, first_unsigned, locators_of, wrong_hash, bad_want, refusal_of_request}
 use Rattle.keep_spec.specs.declared.memory.NoMemory.{NoMemory}
 use Rattle.keep_event.specs.Table.{State, create}
 use Rattle.keep_event.specs.declared.table.NewRecord.{NewRecord}

@@ -5,14 +5,14 @@ use Rattle.std.specs.Option.{option_map_or}
 use Rattle.std.specs.Ordering.{nat_cmp, match_ordering}
 use Rattle.std.specs.Cmp.Lexicographic.{slice_cmp}
 use Rattle.std.specs.Str.{bytes_eq}
-use Rattle.md5.specs.Md5.{md5}
 use Rattle.keep_spec.specs.Config.{Configuration, token_of}
-use Rattle.keep_spec.specs.Locator.{is_empty_block, stripped}
+use Rattle.keep_spec.specs.Locator.{is_empty_block}
 use Rattle.keep_spec.specs.Manifest.{manifest_of, named}
 use Rattle.keep_spec.specs.Portable.{portable_text}
 use Rattle.keep_spec.specs.Refusals.{bad, or_else}
 use Rattle.keep_spec.specs.Sign.{verdict}
 use Rattle.keep_spec.specs.SignedText.{unsigned, with_locators}
+pub use Rattle.keep_spec.specs.Stripped.{portable_hash}
 use Rattle.keep_spec.specs.declared.manifest.Manifest.{Manifest}
 use Rattle.keep_spec.specs.declared.manifest.Refusal.{Refusal}
 use Rattle.keep_spec.specs.declared.portable.Portable.{Portable}
@@ -65,14 +65,6 @@ first_unsigned why index (locator ∷ locators) = or_else (option_map (Unsigned 
 -- each locator is signed for the token
 abbrev pub bad_signature : Configuration → ℕ → SaveRequest → Option TableAnswer
 bad_signature c reading request = first_unsigned (unsigned_because c request.token reading) 0 (locators_of request.text)
-
--- the text with each locator cut behind its size
-abbrev pub stripped_text : List ℕ → List ℕ
-stripped_text text = with_locators stripped text
-
--- the MD5 and the length of the stripped text
-abbrev pub portable_hash : List ℕ → Portable
-portable_hash text = record { digest = md5 (stripped_text text); size = length (stripped_text text) }
 
 -- a claimed hash is the text of the computed one
 abbrev pub wrong_hash : Portable → Option (List ℕ) → Option TableAnswer

@@ -5,8 +5,8 @@ ghost use Rattle.keep_spec.specs.Locator.{stripped};
 ghost use Rattle.keep_spec.specs.Manifest.{manifest_of};
 ghost use Rattle.keep_spec.specs.Refusals.{bad};
 ghost use Rattle.keep_spec.specs.SignedText.{changed, ends_token, with_locators};
+ghost use Rattle.keep_spec.specs.Stripped.{portable_hash, stripped_text};
 ghost use Rattle.keep_manifest.specs.Reading.{IsCause};
-ghost use Rattle.keep_normal.specs.Stripped.{portable, stripped_text};
 
 use keep_locator::Locator;
 use keep_manifest::{BadManifest, read};
@@ -18,7 +18,7 @@ use std::alloc::Global;
 /// stands, not of the normal form. A text that isn't a manifest is refused as reading it is.
 pub fn portable_hash(alloc: Global, text: &[u8]) -> Result<Portable, BadManifest>
     ensures manifest { OnOk result (IsSome (manifest_of text.now)) }
-    ensures hash { IfOk result (λ p. p ≡ portable text.now) }
+    ensures hash { IfOk result (λ p. p ≡ portable_hash text.now) }
     ensures refusal { IfErr result (IsCause (bad text.now)) }
 {
     let stripped = stripped_text(alloc, text)?;

@@ -10,4 +10,5 @@ pub mod Portable
 pub mod Refusals
 pub mod Sign
 pub mod SignedText
+pub mod Stripped
 pub mod Uuid
