@@ -1,6 +1,6 @@
 use Rattle.std.proofs.Common.{◌≡◌, length, take, drop, min, arith, ap, ◌∙◌}
 use Rattle.std.proofs.lemmas.List.{take_min, drop_min}
-use Rattle.keep_normal.proofs.TokenText.{first-token}
+use Rattle.keep_spec.proofs.TokenText.{first-token}
 use Rattle.keep_normal.proofs.hash.first_token.Goals as goal
 
 pub returns-clause-parts : goal.returns-clause-parts

@@ -1,6 +1,6 @@
 use Rattle.std.proofs.Common.{◌≡◌, length, take, drop, min, arith, ap, ◌∙◌}
 use Rattle.std.proofs.lemmas.List.{take_min, drop_min}
-use Rattle.keep_sign.proofs.TokenText.{first-token}
+use Rattle.keep_spec.proofs.TokenText.{first-token}
 use Rattle.keep_sign.proofs.text.first_token.Goals as goal
 
 pub returns-clause-parts : goal.returns-clause-parts
