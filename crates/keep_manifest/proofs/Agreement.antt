@@ -16,8 +16,9 @@ use Rattle.keep_spec.specs.declared.manifest.Manifest.{Manifest}
 use Rattle.keep_spec.specs.declared.manifest.Segment.{Segment}
 use Rattle.keep_spec.specs.declared.manifest.Refusal.{Refusal}
 use Rattle.keep_spec.specs.declared.manifest.Kind.TheVariants.{BadStream, BadLocator}
+use Rattle.keep_spec.specs.Results.{◌>>=◌}
 use Rattle.keep_manifest.specs.Tokens.{lines_of}
-use Rattle.keep_manifest.specs.Reading.{Said, nothing, with_segment, refuse, judged, segment_at, token_at, tokens_at, whole, named_at, line_at, pieces_at, ◌>>=◌}
+use Rattle.keep_manifest.specs.Reading.{Said, nothing, with_segment, refuse, judged, segment_at, token_at, tokens_at, whole, named_at, line_at, pieces_at}
 
 -- a reading gives the value, or the refusal
 abbrev pub Agrees : {X : Type 0} → Result X Refusal → Option X → Option Refusal → Type 0
