@@ -10,7 +10,7 @@ use Rattle.std.proofs.lemmas.List.{drop-drop}
 use Rattle.std.proofs.lemmas.List.Folds.{list_all-append, length-prefix_len}
 use Rattle.std.proofs.lemmas.Str.Parse.{IsNumeralModel, numerals_by_value}
 use Rattle.std.proofs.lemmas.Fmt.{decimal_is_IsNumeral, length-decimal-le}
-use Rattle.keep_spec.specs.Digest.{is_lower_digit, is_digest}
+use Rattle.keep_spec.specs.Digest.{is_lower_digit}
 use Rattle.keep_spec.specs.Locator.{is_number, number, is_hint_character, is_hint, cut_before_plus, size_digits, hints, is_locator}
 use Rattle.keep_spec.specs.Names.{encode, encode_byte, is_escaped}
 use Rattle.keep_spec.specs.Manifest.{cut_at, number_of, segment_form, segment_text}
