@@ -3,18 +3,20 @@ use Rattle.std.proofs.Common.{◌≡◌, ◌⊎◌, inl, inr, ℕ, ◌+◌, Bool
 use lib.Pointwise.{bytes_decides}
 use Rattle.std.specs.Prelude.{⊤, IsTrue, IfOk, IsOk, is_some, Result, Ok, Err, option_map, nat_le, if◌then◌else◌, bytes_eq}
 use Rattle.std.specs.List.{AllByRecursion}
+use Rattle.std.specs.Option.{option_or}
 use Rattle.std.proofs.lemmas.Bool.{and_parts, and_from, leb-true, le-leb}
 use Rattle.keep_spec.specs.Config.{Configuration, token_of}
 use Rattle.keep_spec.specs.Locator.{is_empty_block}
 use Rattle.keep_spec.specs.Portable.{portable_text}
-use Rattle.keep_spec.specs.Refusals.{bad, or_else}
+use Rattle.keep_spec.specs.Refusals.{bad}
 use Rattle.keep_spec.specs.Sign.{verdict}
+use Rattle.keep_spec.specs.Stripped.{portable_hash}
 use Rattle.keep_spec.specs.declared.manifest.Refusal.{Refusal}
 use Rattle.keep_spec.specs.declared.portable.Portable.{Portable}
 use Rattle.keep_spec.specs.declared.token.TokenId.{TokenId}
 use Rattle.keep_spec.specs.declared.unverified.Triple.{Triple}
 use Rattle.keep_spec.specs.declared.unverified.Unverified.{Unverified}
-use Rattle.keep_event.specs.Requests.{refused_at, bad_manifest, bad_signature, cause_of, unsigned_because, first_unsigned, locators_of, portable_hash, wrong_hash, bad_want, refusal_of_request}
+use Rattle.keep_event.specs.Requests.{refused_at, bad_manifest, bad_signature, cause_of, unsigned_because, first_unsigned, locators_of, wrong_hash, bad_want, refusal_of_request}
 use Rattle.keep_spec.specs.declared.memory.NoMemory.{NoMemory}
 use Rattle.keep_event.specs.Table.{State, create}
 use Rattle.keep_event.specs.declared.table.NewRecord.{NewRecord}
@@ -37,7 +39,7 @@ pub record PassesNone (p : TableAnswer → Bool) : Type 0 where
   pub hash : (computed : Portable) → p (WrongHash computed) ≡ false
   pub want : p BadWant ≡ false
 
-never-or : (p : TableAnswer → Bool) (a b : Option TableAnswer) → Never p a → Never p b → Never p (or_else a b)
+never-or : (p : TableAnswer → Bool) (a b : Option TableAnswer) → Never p a → Never p b → Never p (option_or a b)
 never-or p None b m n = n
 never-or p (Some answer) b m n = m
 
@@ -77,11 +79,11 @@ refusal-never p c reading request answer n e = never-at p (refusal_of_request c 
 
 -- ---- where there is none
 
-or-none : {X : Type 0} (a b : Option X) → or_else a b ≡ None → (a ≡ None) × (b ≡ None)
+or-none : {X : Type 0} (a b : Option X) → option_or a b ≡ None → (a ≡ None) × (b ≡ None)
 or-none None b e = (refl, e)
 or-none (Some x) b e = absurd (cc)
 
-none-or : {X : Type 0} (a b : Option X) → a ≡ None → b ≡ None → or_else a b ≡ None
+none-or : {X : Type 0} (a b : Option X) → a ≡ None → b ≡ None → option_or a b ≡ None
 none-or None b e f = f
 none-or (Some x) b e f = absurd (cc)
 

@@ -6,10 +6,11 @@ use Rattle.keep_spec.specs.Locator.{is_empty_block}
 use Rattle.keep_spec.specs.Portable.{portable_text}
 use Rattle.keep_spec.specs.Refusals.{bad}
 use Rattle.keep_spec.specs.Sign.{verdict}
+use Rattle.keep_spec.specs.Stripped.{portable_hash}
 use Rattle.keep_spec.specs.declared.portable.Portable.{Portable}
 use Rattle.keep_spec.specs.declared.token.TokenId.{TokenId}
 use Rattle.keep_event.specs.Table.{State, collection_of, is_owner, is_in_trash, versions_held}
-use Rattle.keep_event.specs.Requests.{locators_of, portable_hash}
+use Rattle.keep_event.specs.Requests.{locators_of}
 use Rattle.keep_event.specs.declared.table.Collection.{Collection}
 use Rattle.keep_event.specs.declared.table.SaveRequest.{SaveRequest}
 use Rattle.keep_event.specs.declared.table.TableAnswer.TheVariants.{Saved}

@@ -1,18 +1,18 @@
 -- The table's line of each query as it is asked: by a token's text, and a save or an update with all that is tested of its request. This is the project's own rule.
 use Rattle.std.specs.Prelude.{ℕ, ◌+◌, ◌&&◌, nat_le, Bool, List, [], ◌∷◌, length, Option, None, Some, option_map, Result, Ok, Err, if◌then◌else◌}
 use Rattle.std.specs.List.{flat_map}
-use Rattle.std.specs.Option.{option_map_or}
+use Rattle.std.specs.Option.{option_or, option_map_or}
 use Rattle.std.specs.Ordering.{nat_cmp, match_ordering}
 use Rattle.std.specs.Cmp.Lexicographic.{slice_cmp}
 use Rattle.std.specs.Str.{bytes_eq}
-use Rattle.md5.specs.Md5.{md5}
 use Rattle.keep_spec.specs.Config.{Configuration, token_of}
-use Rattle.keep_spec.specs.Locator.{is_empty_block, stripped}
+use Rattle.keep_spec.specs.Locator.{is_empty_block}
 use Rattle.keep_spec.specs.Manifest.{manifest_of, named}
 use Rattle.keep_spec.specs.Portable.{portable_text}
-use Rattle.keep_spec.specs.Refusals.{bad, or_else}
+use Rattle.keep_spec.specs.Refusals.{bad}
 use Rattle.keep_spec.specs.Sign.{verdict}
 use Rattle.keep_spec.specs.SignedText.{unsigned, with_locators}
+pub use Rattle.keep_spec.specs.Stripped.{portable_hash}
 use Rattle.keep_spec.specs.declared.manifest.Manifest.{Manifest}
 use Rattle.keep_spec.specs.declared.manifest.Refusal.{Refusal}
 use Rattle.keep_spec.specs.declared.portable.Portable.{Portable}
@@ -60,19 +60,11 @@ unsigned_because c token reading locator =
 -- the first locator for which there is a cause, where so many stand before them
 abbrev pub first_unsigned : (List ℕ → Option Unverified) → ℕ → List (List ℕ) → Option TableAnswer
 first_unsigned why index [] = None
-first_unsigned why index (locator ∷ locators) = or_else (option_map (Unsigned index) (why locator)) (first_unsigned why (index + 1) locators)
+first_unsigned why index (locator ∷ locators) = option_or (option_map (Unsigned index) (why locator)) (first_unsigned why (index + 1) locators)
 
 -- each locator is signed for the token
 abbrev pub bad_signature : Configuration → ℕ → SaveRequest → Option TableAnswer
 bad_signature c reading request = first_unsigned (unsigned_because c request.token reading) 0 (locators_of request.text)
-
--- the text with each locator cut behind its size
-abbrev pub stripped_text : List ℕ → List ℕ
-stripped_text text = with_locators stripped text
-
--- the MD5 and the length of the stripped text
-abbrev pub portable_hash : List ℕ → Portable
-portable_hash text = record { digest = md5 (stripped_text text); size = length (stripped_text text) }
 
 -- a claimed hash is the text of the computed one
 abbrev pub wrong_hash : Portable → Option (List ℕ) → Option TableAnswer
@@ -85,9 +77,9 @@ bad_want want = if nat_le 1 want && nat_le want 255 then None else Some BadWant
 
 abbrev pub refusal_of_request : Configuration → ℕ → SaveRequest → Option TableAnswer
 refusal_of_request c reading request =
-    or_else (bad_manifest request.text)
-    (or_else (bad_signature c reading request)
-    (or_else (wrong_hash (portable_hash request.text) request.portable) (bad_want request.want)))
+    option_or (bad_manifest request.text)
+    (option_or (bad_signature c reading request)
+    (option_or (wrong_hash (portable_hash request.text) request.portable) (bad_want request.want)))
 
 -- ---- what is stored of a good request
 
@@ -137,7 +129,7 @@ save c reading request s =
 unfoldable pub update_line : Configuration → ℕ → ℕ → Bool → SaveRequest → State → Reply
 update_line c reading collection preserve request s =
     known c request.token s (λ token.
-    if_allowed (or_else (refusal_of (updatable reading token collection s)) (refusal_of_request c reading request)) s
+    if_allowed (option_or (refusal_of (updatable reading token collection s)) (refusal_of_request c reading request)) s
     (update (rules_of c) reading token collection (made_of request) preserve s))
 
 -- the line of a query

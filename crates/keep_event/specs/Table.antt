@@ -2,6 +2,7 @@
 use Rattle.std.specs.Prelude.{ℕ, ◌+◌, ◌-◌, ◌*◌, ◌/◌, ◌^◌, ◌==◌, ◌&&◌, ◌||◌, nat_lt, nat_le, min, max, not, List, [], ◌∷◌, ◌++◌, length, map, filter, take, count_by, Bool, true, false, Option, None, Some, unwrap_or, Result, Ok, Err, ok_or, if◌then◌else◌}
 use Rattle.std.specs.List.{find}
 use Rattle.std.specs.Option.{option_map_or}
+pub use Rattle.keep_spec.specs.Results.{◌>>=◌}
 use Rattle.keep_spec.specs.declared.token.TokenId.{TokenId}
 use Rattle.keep_event.specs.declared.table.TableRules.{TableRules}
 use Rattle.keep_event.specs.declared.table.Standing.{Standing}
@@ -35,11 +36,6 @@ stays answer s = record { answer = answer; state = s }
 abbrev pub unless_refused : {X : Type 0} → State → Result X TableAnswer → (X → Reply) → Reply
 unless_refused s (Err refusal) next = stays refusal s
 unless_refused s (Ok x) next = next x
-
-infixl 10 ◌>>=◌
-abbrev pub ◌>>=◌ : {A B E : Type 0} → Result A E → (A → Result B E) → Result B E
-Ok x >>= next = next x
-Err e >>= next = Err e
 
 -- ---- times, in nanoseconds
 

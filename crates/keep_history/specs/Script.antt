@@ -2,6 +2,7 @@
 use Rattle.std.specs.Prelude.{ℕ, ◌<◌, ⊤, ◌+◌, ◌==◌, ◌&&◌, ◌||◌, nat_lt, nat_le, List, [], ◌++◌, length, Bool, true, false, Option, None, Some, is_some, is_none, option_and_then, option_map, if◌then◌else◌, codes, Result, Ok, Err}
 use Rattle.std.specs.Char.{is_ascii_alphanumeric}
 use Rattle.std.specs.List.{list_all}
+use Rattle.std.specs.Option.{option_or}
 use Rattle.std.specs.Str.{bytes_eq}
 use Rattle.hex.specs.Hex.{decode_of, encode_lower}
 use Rattle.hex.specs.declared.error.FromHexError.{FromHexError}
@@ -71,13 +72,9 @@ abbrev pub locator_of_reference : Names → Data → Option (List ℕ)
 locator_of_reference names d =
     if has_members 1 d then option_and_then (λ name. ended_locator (state_of_name name names)) (text_at (codes "locator") d) else None
 
-abbrev pub or_else : {A : Type 0} → Option A → Option A → Option A
-or_else None other = other
-or_else (Some x) other = Some x
-
 -- a locator is a text, or a reference to a task
 abbrev pub locator_of_data : Names → Data → Option (List ℕ)
-locator_of_data names d = or_else (as_str d) (locator_of_reference names d)
+locator_of_data names d = option_or (as_str d) (locator_of_reference names d)
 
 -- KINDS
 -- a digest that need not be given
@@ -153,7 +150,7 @@ text_of_reference names d =
 
 -- a part of a manifest is a text, the locator of a task, or the text of a task
 abbrev pub part_of_data : Names → Data → Option (List ℕ)
-part_of_data names d = or_else (locator_of_data names d) (text_of_reference names d)
+part_of_data names d = option_or (locator_of_data names d) (text_of_reference names d)
 
 -- the parts joined
 abbrev pub joined_parts : Names → Items → Option (List ℕ)
@@ -162,7 +159,7 @@ joined_parts names (item d ds) = option_and_then (λ part. option_map (λ rest. 
 
 -- a manifest is a text or a list of parts
 abbrev pub manifest_of_data : Names → Data → Option (List ℕ)
-manifest_of_data names d = or_else (as_str d) (option_and_then (joined_parts names) (as_array d))
+manifest_of_data names d = option_or (as_str d) (option_and_then (joined_parts names) (as_array d))
 
 -- COLLECTIONS
 -- a text that need not be given

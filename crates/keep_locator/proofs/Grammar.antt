@@ -1,5 +1,5 @@
 -- What is accepted a byte at a time is just what is a locator.
-use Rattle.std.proofs.Common.{◌≡◌, ℕ, zero, suc, ◌+◌, ◌<◌, ◌≤◌, Bool, true, false, not, cond, ◌&&◌, nat_lt, nat_le, ◌==◌, inl, inr, List, [], ◌∷◌, length, take, drop, get_or, Option, Some, None, unwrap_or, if◌then◌else◌, refl, sym, ap, ◌∙◌, arith, zero-add}
+use Rattle.std.proofs.Common.{◌≡◌, ℕ, zero, suc, ◌+◌, ◌<◌, ◌≤◌, Bool, true, false, not, ◌&&◌, nat_lt, nat_le, ◌==◌, inl, inr, List, [], ◌∷◌, length, take, drop, get_or, Option, Some, None, unwrap_or, if◌then◌else◌, refl, sym, ap, ◌∙◌, arith, zero-add}
 use Rattle.std.specs.Char.{is_ascii_digit, is_ascii_uppercase}
 use Rattle.std.specs.List.{list_all, prefix_len, position_or_len, onto_first}
 use Rattle.std.specs.Option.{option_map}
@@ -9,6 +9,7 @@ use Rattle.std.proofs.lemmas.List.{drop-drop, nil_from_length}
 use Rattle.std.proofs.lemmas.List.Folds.{length-prefix_len}
 use Rattle.keep_spec.specs.Digest.{is_lower_digit, is_digest}
 use Rattle.keep_spec.specs.Locator.{is_hint_character, is_hint, cut_before_plus, is_number, size_digits, hints, is_locator}
+use Rattle.keep_spec.proofs.Fronts.{prefix_len-yes, prefix_len-no}
 use Rattle.keep_locator.specs.declared.place.Place.{Place}
 use Rattle.keep_locator.specs.declared.place.Place.TheVariants.{Plus, Hint}
 use Rattle.keep_locator.proofs.Machine.{State, digits, counted, placed, step, accepts, accepts-go, accepts-stop}
@@ -41,12 +42,6 @@ not_plus c = not (c == 43)
 
 abbrev are_hints : List ℕ → Bool
 are_hints xs = list_all is_hint (cut_before_plus xs)
-
-prefix_len-yes : (p : ℕ → Bool) (x : ℕ) (xs : List ℕ) → p x ≡ true → prefix_len p (x ∷ xs) ≡ suc (prefix_len p xs)
-prefix_len-yes p x xs passes = ap (λ b. cond b (1 + prefix_len p xs) 0) passes ∙ omega arith
-
-prefix_len-no : (p : ℕ → Bool) (x : ℕ) (xs : List ℕ) → p x ≡ false → prefix_len p (x ∷ xs) ≡ 0
-prefix_len-no p x xs fails = ap (λ b. cond b (1 + prefix_len p xs) 0) fails
 
 -- the first piece goes up to the next plus
 pub cut-cons : (x : ℕ) (ys : List ℕ) → cut_before_plus (x ∷ ys) ≡ (x ∷ take (prefix_len not_plus ys) ys) ∷ cut_before_plus (drop (prefix_len not_plus ys) ys)

@@ -1,11 +1,11 @@
 -- The parts of a permission hint.
-use Rattle.std.proofs.Common.{◌≡◌, ℕ, zero, suc, ◌+◌, ◌-◌, ◌*◌, ◌^◌, ◌<◌, ◌≤◌, Bool, true, ◌==◌, ◌&&◌, nat_eq, List, [], ◌∷◌, ◌++◌, map, length, take, drop, get_or, Option, Some, None, if◌then◌else◌, refl, sym, ap, ◌∙◌, arith}
+use Rattle.std.proofs.Common.{◌≡◌, ℕ, ◌+◌, ◌*◌, ◌^◌, ◌<◌, ◌≤◌, Bool, true, ◌==◌, ◌&&◌, nat_eq, List, [], ◌∷◌, ◌++◌, map, length, take, drop, get_or, Option, Some, None, if◌then◌else◌, refl, sym, ap, ◌∙◌, arith}
 use Rattle.std.specs.Prelude.{codes, filter, is_some}
 use Rattle.std.specs.Option.{option_map, option_to_list}
 use Rattle.std.specs.Char.{digit_value}
 use Rattle.std.specs.List.{list_all, starts_with}
 use Rattle.std.specs.Str.Parse.{digits_value}
-use Rattle.std.proofs.Math.Nat.{pow-suc}
+use Rattle.std.proofs.Math.Nat.{pow-suc, pow-le-pow_right}
 use Rattle.std.proofs.lemmas.Bool.{and_parts, eqb-true, false≢true}
 use Rattle.std.proofs.lemmas.Bool.Decides.{nat_tests}
 use Rattle.std.proofs.lemmas.List.{take_more}
@@ -85,15 +85,8 @@ found_second found text rest hint behind some is more so_far =
 pub sixteen-suc : (n : ℕ) → 16 ^ (n + 1) ≡ 16 ^ n * 16
 sixteen-suc n = grind (arith, pow-suc 16 n)
 
-sixteen-le-add : (n k : ℕ) → 16 ^ n ≤ 16 ^ (n + k)
-sixteen-le-add n zero = let e : n + 0 ≡ n = omega arith in rw e (omega arith)
-sixteen-le-add n (suc k) =
-    let step : 16 ^ (n + k + 1) ≡ 16 ^ (n + k) * 16 = sixteen-suc (n + k) in
-    let e : n + suc k ≡ n + k + 1 = omega arith in
-    rw e (omega (arith, sixteen-le-add n k, step))
-
 pub sixteen-le : (m n : ℕ) → m ≤ n → 16 ^ m ≤ 16 ^ n
-sixteen-le m n le = let e : m + (n - m) ≡ n = omega arith in rw e at (sixteen-le-add m (n - m))
+sixteen-le m n le = pow-le-pow_right (omega arith) le
 
 -- one digit more of a text
 pub hex-take-more : (text : List ℕ) (i : ℕ) → i < length text → digits_value 16 (take (i + 1) text) ≡ digits_value 16 (take i text) * 16 + digit_value (get_or text i 0)

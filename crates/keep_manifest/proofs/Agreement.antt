@@ -6,17 +6,19 @@ use Rattle.std.proofs.lemmas.Option.{none-some}
 use Rattle.std.proofs.lemmas.List.Sums.{take_while-cons, sum_by-append}
 use Rattle.std.specs.Prelude.{take_while}
 use Rattle.std.specs.List.{slice_split, prefix_len}
+use Rattle.std.specs.Option.{option_or}
 use Rattle.keep_spec.specs.Names.{decode, is_stream_name}
 use Rattle.keep_spec.specs.Locator.{is_locator, size}
 use Rattle.keep_spec.specs.Manifest.{segment_form, is_named, is_within, is_segment, segment_of, total_size, each, stream_of_parts, stream_of_tokens, stream_of, streams_of, manifest_of}
-use Rattle.keep_spec.specs.Refusals.{refused, or_else, bad_form, bad_segment, bad_segments, bad_rest, bad_locators, bad_tokens, bad_line, bad_pieces, bad}
+use Rattle.keep_spec.specs.Refusals.{refused, bad_form, bad_segment, bad_segments, bad_rest, bad_locators, bad_tokens, bad_line, bad_pieces, bad}
 use Rattle.keep_spec.specs.declared.manifest.Stream.{Stream}
 use Rattle.keep_spec.specs.declared.manifest.Manifest.{Manifest}
 use Rattle.keep_spec.specs.declared.manifest.Segment.{Segment}
 use Rattle.keep_spec.specs.declared.manifest.Refusal.{Refusal}
 use Rattle.keep_spec.specs.declared.manifest.Kind.TheVariants.{BadStream, BadLocator}
+use Rattle.keep_spec.specs.Results.{◌>>=◌}
 use Rattle.keep_manifest.specs.Tokens.{lines_of}
-use Rattle.keep_manifest.specs.Reading.{Said, nothing, with_segment, refuse, judged, segment_at, token_at, tokens_at, whole, named_at, line_at, pieces_at, ◌>>=◌}
+use Rattle.keep_manifest.specs.Reading.{Said, nothing, with_segment, refuse, judged, segment_at, token_at, tokens_at, whole, named_at, line_at, pieces_at}
 
 -- a reading gives the value, or the refusal
 abbrev pub Agrees : {X : Type 0} → Result X Refusal → Option X → Option Refusal → Type 0
@@ -27,7 +29,7 @@ agrees_as : {X : Type 0} (r r' : Result X Refusal) (v v' : Option X) (b b' : Opt
 agrees_as r r' v v' b b' e f g h = rw (e, f, g) h
 
 -- one reading after another
-then_agrees : {X Y : Type 0} (r : Result X Refusal) (v : Option X) (b c : Option Refusal) (f : X → Result Y Refusal) (g : X → Option Y) → Agrees r v b → ((x : X) → Agrees (f x) (g x) c) → Agrees (r >>= f) (option_and_then g v) (or_else b c)
+then_agrees : {X Y : Type 0} (r : Result X Refusal) (v : Option X) (b c : Option Refusal) (f : X → Result Y Refusal) (g : X → Option Y) → Agrees r v b → ((x : X) → Agrees (f x) (g x) c) → Agrees (r >>= f) (option_and_then g v) (option_or b c)
 then_agrees (Ok x) v b c f g h k = rw (h.0, h.1) (k x)
 then_agrees (Err e) v b c f g h k = rw (h.0, h.1) (refl, refl)
 
@@ -238,7 +240,7 @@ line_agrees : (at : ℕ) (line : List ℕ) → Agrees (line_at at line) (stream_
 unfolding line_at
 line_agrees at line = named_agrees at (at + length line) (slice_split (λ b. eqb b 32) line)
 
-unfinished_agrees : (r : Result Stream Refusal) (v : Option Stream) (b c : Option Refusal) (f : Refusal) → Agrees r v b → c ≡ Some f → Agrees {X = List Stream} (r >>= λ _. Err f) None (or_else b c)
+unfinished_agrees : (r : Result Stream Refusal) (v : Option Stream) (b c : Option Refusal) (f : Refusal) → Agrees r v b → c ≡ Some f → Agrees {X = List Stream} (r >>= λ _. Err f) None (option_or b c)
 unfinished_agrees (Ok s) v b c f h e = rw (h.1, e) (refl, refl)
 unfinished_agrees (Err g) v b c f h e = rw h.1 (refl, refl)
 

@@ -20,7 +20,7 @@ cut_at_none c (x ∷ xs) all =
     let other : eqb x c ≡ false = ne_eqb x c (all 0 (omega arith)) in
     rw (other, cut_at_none c xs (λ k l. all (suc k) (omega arith)))
 
-abbrev parts : ℕ → List ℕ → List (List ℕ)
+abbrev pub parts : ℕ → List ℕ → List (List ℕ)
 parts c xs = slice_split (λ b. eqb b c) xs
 
 split_step : (b : Bool) (c x : ℕ) (xs : List ℕ) (o : Option (List ℕ × List ℕ)) (p : List ℕ × List ℕ) → cond {A = Option (List ℕ × List ℕ)} b (Some ([], xs)) (option_map (λ q. (x ∷ q.0, q.1)) o) ≡ Some p → ((q : List ℕ × List ℕ) → o ≡ Some q → parts c xs ≡ q.0 ∷ parts c q.1) → cond b ([] ∷ parts c xs) (onto_first x (parts c xs)) ≡ p.0 ∷ parts c p.1

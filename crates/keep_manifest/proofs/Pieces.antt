@@ -7,9 +7,10 @@ use Rattle.keep_spec.specs.declared.manifest.Manifest.{Manifest}
 use Rattle.keep_spec.specs.declared.manifest.Stream.{Stream}
 use Rattle.keep_spec.specs.declared.manifest.Refusal.{Refusal}
 use Rattle.keep_spec.specs.declared.manifest.Kind.TheVariants.{NoNewline}
+use Rattle.keep_spec.specs.Results.{◌>>=◌}
 use Rattle.keep_manifest.specs.declared.fault.BadManifest.{BadManifest}
 use Rattle.keep_manifest.specs.declared.fault.BadManifest.TheVariants.{NoMemory, Refused}
-use Rattle.keep_manifest.specs.Reading.{Gives, IsCause, line_at, pieces_at, refuse, ◌>>=◌}
+use Rattle.keep_manifest.specs.Reading.{Gives, IsCause, line_at, pieces_at, refuse}
 use Rattle.keep_manifest.specs.Tokens.{lines_of}
 use Rattle.keep_manifest.proofs.Cuts.{split_found, split_none, length_found}
 

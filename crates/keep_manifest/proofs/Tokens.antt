@@ -6,7 +6,8 @@ use Rattle.keep_spec.specs.Names.{decode, is_stream_name}
 use Rattle.keep_spec.specs.declared.manifest.Stream.{Stream}
 use Rattle.keep_spec.specs.declared.manifest.Refusal.{Refusal}
 use Rattle.keep_spec.specs.declared.manifest.Kind.TheVariants.{BadStream}
-use Rattle.keep_manifest.specs.Reading.{Gives, Said, nothing, token_at, tokens_at, named_at, line_at, whole, refuse, ◌>>=◌}
+use Rattle.keep_spec.specs.Results.{◌>>=◌}
+use Rattle.keep_manifest.specs.Reading.{Gives, Said, nothing, token_at, tokens_at, named_at, line_at, whole, refuse}
 use Rattle.keep_manifest.specs.Saying.{Takes}
 use Rattle.keep_manifest.specs.Tokens.{tokens_of}
 use Rattle.keep_manifest.specs.declared.fault.BadManifest.{BadManifest}

@@ -10,11 +10,12 @@ use Rattle.std.proofs.lemmas.List.{drop-drop}
 use Rattle.std.proofs.lemmas.List.Folds.{list_all-append, length-prefix_len}
 use Rattle.std.proofs.lemmas.Str.Parse.{IsNumeralModel, numerals_by_value}
 use Rattle.std.proofs.lemmas.Fmt.{decimal_is_IsNumeral, length-decimal-le}
-use Rattle.keep_spec.specs.Digest.{is_lower_digit, is_digest}
+use Rattle.keep_spec.specs.Digest.{is_lower_digit}
 use Rattle.keep_spec.specs.Locator.{is_number, number, is_hint_character, is_hint, cut_before_plus, size_digits, hints, is_locator}
 use Rattle.keep_spec.specs.Names.{encode, encode_byte, is_escaped}
 use Rattle.keep_spec.specs.Manifest.{cut_at, number_of, segment_form, segment_text}
 use Rattle.keep_spec.specs.declared.manifest.Segment.{Segment}
+use Rattle.keep_spec.proofs.LocatorText.{LocatorParts, locator_parts}
 use Rattle.keep_manifest.proofs.Decoding.{decode_encode}
 
 -- neither a space nor a byte below it
@@ -92,21 +93,12 @@ hint_visible (x ∷ y ∷ rest) h =
     and_from (is_visible x) (is_visible y && list_all is_visible rest) plus
     (and_from (is_visible y) (list_all is_visible rest) (letter_visible y first.1) (list_all-weaker is_hint_character is_visible hint_character_visible rest all.1))
 
-record LocatorParts (text : List ℕ) : Type 0 where
-  digits : list_all is_lower_digit (take 32 text) ≡ true
-  plus : get_or text 32 0 ≡ 43
-  size : list_all is_ascii_digit (size_digits text) ≡ true
-  hints : list_all is_hint (hints text) ≡ true
+digest_digits : (text : List ℕ) → LocatorParts text → list_all is_lower_digit (take 32 text) ≡ true
+digest_digits text parts = (and_parts (eqb (length (take 32 text)) 32) (list_all is_lower_digit (take 32 text)) parts.a_digest).1
 
-locator_parts : (text : List ℕ) → is_locator text ≡ true → LocatorParts text
-unfolding is_locator is_number
-locator_parts text h =
-    let a = and_parts (is_digest (take 32 text) && eqb (get_or text 32 0) 43 && is_number (size_digits text)) (list_all is_hint (hints text)) h in
-    let b = and_parts (is_digest (take 32 text) && eqb (get_or text 32 0) 43) (is_number (size_digits text)) a.0 in
-    let d = and_parts (is_digest (take 32 text)) (eqb (get_or text 32 0) 43) b.0 in
-    let e = and_parts (eqb (length (take 32 text)) 32) (list_all is_lower_digit (take 32 text)) d.0 in
-    let f = and_parts (leb 1 (length (size_digits text)) && leb (length (size_digits text)) 19) (list_all is_ascii_digit (size_digits text)) b.1 in
-    record { digits = e.1; plus = eqb-true (get_or text 32 0) 43 d.1; size = f.1; hints = a.1 }
+number_digits : (text : List ℕ) → LocatorParts text → list_all is_ascii_digit (size_digits text) ≡ true
+unfolding is_number
+number_digits text parts = (and_parts (leb 1 (length (size_digits text)) && leb (length (size_digits text)) 19) (list_all is_ascii_digit (size_digits text)) parts.a_number).1
 
 -- what stands behind the plus of the size
 size_and_hints : (text : List ℕ) → LocatorParts text → list_all is_visible (drop 33 text) ≡ true
@@ -115,15 +107,15 @@ size_and_hints text parts =
     let front = prefix_len is_ascii_digit (drop 33 text) in
     let long = length-prefix_len is_ascii_digit (drop 33 text) in
     let behind : drop (33 + length (size_digits text)) text ≡ drop front (drop 33 text) = ap (λ n. drop (33 + n) text) long ∙ sym (drop-drop front 33 text) in
-    let shown = list_all-weaker is_hint (list_all is_visible) hint_visible (hints text) parts.hints in
-    list_all-rejoined is_visible front (drop 33 text) (list_all-weaker is_ascii_digit is_visible digit_visible (size_digits text) parts.size)
+    let shown = list_all-weaker is_hint (list_all is_visible) hint_visible (hints text) parts.each_a_hint in
+    list_all-rejoined is_visible front (drop 33 text) (list_all-weaker is_ascii_digit is_visible digit_visible (size_digits text) (number_digits text parts))
     (subst (λ xs. list_all is_visible xs ≡ true) behind (list_all-pieces is_visible (drop (33 + length (size_digits text)) text) shown))
 
 pub locator_visible : (text : List ℕ) → is_locator text ≡ true → list_all is_visible text ≡ true
 locator_visible text h =
     let parts = locator_parts text h in
     let plus : is_visible (get_or text 32 0) ≡ true = ap is_visible parts.plus in
-    list_all-byte is_visible 32 text plus (list_all-weaker is_lower_digit is_visible lower_visible (take 32 text) parts.digits) (size_and_hints text parts)
+    list_all-byte is_visible 32 text plus (list_all-weaker is_lower_digit is_visible lower_visible (take 32 text) (digest_digits text parts)) (size_and_hints text parts)
 
 -- numbers
 
@@ -204,5 +196,5 @@ pub segment_no_locator : (s : Segment) → s.position < 10 ^ 19 → is_locator (
 segment_no_locator s p =
     let long = length-decimal-le 19 s.position (omega arith) p (omega arith) in
     false_from_ne_true (is_locator (segment_text s)) (λ h.
-    let digits = subst (λ t. list_all is_lower_digit (take 32 t) ≡ true) (regrouped s) (locator_parts (segment_text s) h).digits in
+    let digits = subst (λ t. list_all is_lower_digit (take 32 t) ≡ true) (regrouped s) (digest_digits (segment_text s) (locator_parts (segment_text s) h)) in
     false≢true (front_byte is_lower_digit 32 (decimal s.position) 58 (decimal s.size ++ 58 ∷ encode s.name) (omega arith) digits))

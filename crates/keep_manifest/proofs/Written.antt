@@ -1,7 +1,7 @@
 -- What was written reads to what it was written of.
 use Rattle.std.proofs.Common.{◌≡◌, ℕ, ◌^◌, ◌<◌, eqb, ltb, true, not, ◌&&◌, cond, List, [], ◌∷◌, ◌++◌, length, take, drop, Option, Some, None, option_map, option_and_then, refl, ap, sym, ◌∙◌, append_assoc, append-nil, arith}
 use Rattle.std.specs.Prelude.{take_while, map}
-use Rattle.std.specs.List.{list_all, flat_map, prefix_len, slice_split}
+use Rattle.std.specs.List.{list_all, flat_map, prefix_len}
 use Rattle.std.proofs.lemmas.Bool.{and_parts, and_from, ltb-true}
 use Rattle.std.proofs.lemmas.Bool.Decides.{nat_tests}
 use Rattle.std.proofs.lemmas.List.{take_at, drop_at, length-map}
@@ -13,13 +13,10 @@ use Rattle.keep_spec.specs.declared.manifest.Stream.{Stream}
 use Rattle.keep_spec.specs.declared.manifest.Segment.{Segment}
 use Rattle.keep_manifest.specs.Good.{is_good_segment, is_good_stream, is_good_manifest}
 use Rattle.keep_manifest.specs.Tokens.{lines_of}
-use Rattle.keep_manifest.proofs.Cuts.{split_found, split_none}
+use Rattle.keep_manifest.proofs.Cuts.{parts, split_found, split_none}
 use Rattle.keep_manifest.proofs.Decoding.{decode_encode}
 use Rattle.keep_manifest.proofs.Pieces.{some_line}
 use Rattle.keep_manifest.proofs.Visible.{is_visible, lacks, list_all-weaker, list_all-joined, locator_visible, encode_visible, segment_visible, segment_no_locator, segment_form-text, cut_at-joined, cut_at-lacking}
-
-abbrev parts : ℕ → List ℕ → List (List ℕ)
-parts c xs = slice_split (λ b. eqb b c) xs
 
 split_joined : (c : ℕ) (xs ys : List ℕ) → lacks c xs ≡ true → parts c (xs ++ c ∷ ys) ≡ xs ∷ parts c ys
 split_joined c xs ys h = split_found c (xs ++ c ∷ ys) (xs, ys) (cut_at-joined c xs ys h)

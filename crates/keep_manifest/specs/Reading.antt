@@ -4,6 +4,7 @@ use Rattle.std.specs.List.{slice_split}
 use Rattle.keep_spec.specs.Names.{decode, is_stream_name}
 use Rattle.keep_spec.specs.Locator.{is_locator}
 use Rattle.keep_spec.specs.Manifest.{segment_form, is_named, is_within, total_size}
+use Rattle.keep_spec.specs.Results.{◌>>=◌}
 use Rattle.keep_spec.specs.declared.manifest.Stream.{Stream}
 use Rattle.keep_spec.specs.declared.manifest.Segment.{Segment}
 use Rattle.keep_spec.specs.declared.manifest.Refusal.{Refusal}
@@ -22,11 +23,6 @@ Gives (Err (Refused f)) reading = reading ≡ Err f
 abbrev pub IsCause : Option Refusal → BadManifest → Type 0
 IsCause refusal NoMemory = Unit {0}
 IsCause refusal (Refused f) = refusal ≡ Some f
-
-infixl 10 ◌>>=◌
-abbrev pub ◌>>=◌ : {A B : Type 0} → Result A Refusal → (A → Result B Refusal) → Result B Refusal
-(Ok x) >>= f = f x
-(Err e) >>= f = Err e
 
 abbrev pub refuse : {X : Type 0} → ℕ → Kind → Result X Refusal
 refuse at kind = Err (record { at = at; kind = kind })

@@ -13,6 +13,7 @@ mod segment;
 mod tests;
 mod writing;
 
+pub use cut::cut_token;
 pub use fault::BadManifest;
 pub use good::is_good;
 pub use keep_spec::{Kind, Manifest, Refusal, Segment, Stream};

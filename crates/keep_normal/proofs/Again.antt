@@ -29,8 +29,9 @@ use Rattle.keep_normal.proofs.Expand.{is_known, segments_forward, file_again, bl
 use Rattle.keep_normal.proofs.Fails.{list_all-flat_map}
 use Rattle.keep_normal.proofs.Gathered.{grouped-ascending}
 use Rattle.keep_normal.proofs.Joins.{joined-map, joined-joined}
-use Rattle.keep_normal.proofs.Maps.{has_key, key-same, same_maps, selected, grouped-values, values_are, is_filled, grouped-filled, each_at, grouped-each, one_given}
+use Rattle.keep_normal.proofs.Maps.{all_true, has_key, key-same, same_maps, selected, grouped-values, values_are, is_filled, grouped-filled, each_at, grouped-each, one_given}
 use Rattle.keep_normal.proofs.Named.{is_named_path, path-named}
+use Rattle.keep_normal.proofs.Parts.{part_with}
 use Rattle.keep_normal.proofs.SoundFiles.{good_stream_is, ranges_sound}
 use Rattle.keep_normal.proofs.Sounds.{part_joins}
 use Rattle.keep_normal.proofs.Splits.{is_forward}
@@ -54,10 +55,6 @@ flat_map_none t f none [] h = refl
 flat_map_none t f none (x ∷ xs) h =
     let parts = and_parts (t x) (list_all t xs) h in
     ap (λ ys. ys ++ flat_map f xs) (none x parts.0) ∙ flat_map_none t f none xs parts.1
-
-all_true : {X : Type 0} (xs : List X) → list_all (λ x. true) xs ≡ true
-all_true [] = refl
-all_true (x ∷ xs) = all_true xs
 
 flat_map_same_all : {X Y : Type 0} (f g : X → List Y) → ((x : X) → f x ≡ g x) → (xs : List X) → flat_map f xs ≡ flat_map g xs
 flat_map_same_all f g same xs = flat_map_same (λ x. true) f g (λ x _. same x) xs (all_true xs)
@@ -346,9 +343,6 @@ each_again all (f ∷ fs) known sound apart =
 files_again : (fs : List FileParts) → IsTidy fs → files (normal_of fs) ≡ fs
 unfolding files
 files_again fs tidy = ap (map file_of) (table_again fs tidy) ∙ each_again fs fs (all_known fs) tidy.sound tidy.apart
-
-abbrev part_with : List ℕ → ℕ → ℕ → Part
-part_with locator offset length = record { locator = locator; offset = offset; length = length }
 
 -- stripping what is stripped changes nothing
 parts_stripped : (ps : List Part) → map stripped_part (map stripped_part ps) ≡ map stripped_part ps

@@ -16,7 +16,7 @@ use Rattle.keep_normal.specs.Files.{part_in, kept, parts_in, joined_parts}
 use Rattle.keep_normal.specs.Normal.{start_at, with_block, locators_of, blocks, span_in, spans, or_empty, or_empty_block}
 use Rattle.keep_normal.specs.Sound.{is_sound, are_sound}
 use Rattle.keep_normal.proofs.Fails.{list_all-flat_map}
-use Rattle.keep_normal.proofs.Parts.{kept_some, part_before, parts_behind}
+use Rattle.keep_normal.proofs.Parts.{same_part, kept_some, part_before, parts_behind}
 use Rattle.keep_normal.proofs.Sounds.{sound_is, span_from}
 use Rattle.keep_normal.proofs.Splits.{is_forward, forward-joined, parts_of, parts-joined}
 use Rattle.keep_normal.proofs.Starts.{start_by, start-push}
@@ -29,12 +29,6 @@ some_is None h = absurd (false≢true h)
 some_is (Some x) h = (x, refl)
 
 -- One part: its span among the blocks is the part again.
-
-abbrev part_with : List ℕ → ℕ → ℕ → Part
-part_with locator offset length = record { locator = locator; offset = offset; length = length }
-
-same_part : (l l' : List ℕ) (o o' n n' : ℕ) → l ≡ l' → o ≡ o' → n ≡ n' → part_with l o n ≡ part_with l' o' n'
-same_part l l' o o' n n' d e f = ap (λ t. part_with t o n) d ∙ ap (λ k. part_with l' k n) e ∙ ap (part_with l' o') f
 
 expand_first : (b : List ℕ) (bs : List (List ℕ)) (start from : ℕ) (p : Part) → b ≡ p.locator → from ≡ start + p.offset → is_sound p ≡ true → parts_in start (span_from from p.length) (b ∷ bs) ≡ p ∷ []
 expand_first b bs start from p e at sound =

@@ -15,4 +15,3 @@ pub mod Splits
 pub mod Starts
 pub mod Strips
 pub mod Table
-pub mod TokenText

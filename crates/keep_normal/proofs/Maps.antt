@@ -162,7 +162,7 @@ along_each q r step m (e ∷ es) hm h =
     let parts = and_parts (r e) (list_all r es) h in
     along_each q r step (put m e) es (inserted_each q e.0 (values_at m e.0 ++ e.1 ∷ []) m (step m e hm parts.0) hm) parts.1
 
-all_true : {X : Type 0} (xs : List X) → list_all (λ x. true) xs ≡ true
+pub all_true : {X : Type 0} (xs : List X) → list_all (λ x. true) xs ≡ true
 all_true [] = refl
 all_true (x ∷ xs) = all_true xs
 

@@ -10,6 +10,12 @@ use Rattle.keep_normal.specs.declared.span.Span.{Span}
 use Rattle.keep_normal.specs.Files.{part_in, kept, parts_in}
 use Rattle.keep_normal.proofs.Places.{at_any}
 
+abbrev pub part_with : List ℕ → ℕ → ℕ → Part
+part_with locator offset length = record { locator = locator; offset = offset; length = length }
+
+pub same_part : (l l' : List ℕ) (o o' n n' : ℕ) → l ≡ l' → o ≡ o' → n ≡ n' → part_with l o n ≡ part_with l' o' n'
+same_part l l' o o' n n' d e f = ap (λ t. part_with t o n) d ∙ ap (λ k. part_with l' k n) e ∙ ap (part_with l' o') f
+
 pub kept_none : (p : Part) → p.length ≡ 0 → kept p ≡ []
 kept_none p none = ap (λ b. cond b [] (p ∷ [])) (eq-eqb p.length 0 none)
 

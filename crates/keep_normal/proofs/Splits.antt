@@ -11,24 +11,18 @@ use Rattle.keep_normal.specs.Files.{part_in, kept, parts_in, touch, both_parts, 
 use Rattle.keep_normal.specs.Joined.{joined_before, joined}
 use Rattle.keep_normal.specs.Normal.{meet, both_spans}
 use Rattle.keep_normal.proofs.Joins.{before_two, joined_behind_same, one_or_two}
-use Rattle.keep_normal.proofs.Parts.{kept_none, kept_some, parts_behind}
+use Rattle.keep_normal.proofs.Parts.{same_part, kept_none, kept_some, parts_behind}
 use Rattle.keep_normal.proofs.Sounds.{part_joins}
 
 -- a span that doesn't end before it begins
 abbrev pub is_forward : Span → Bool
 is_forward s = leb s.from s.to
 
-abbrev part_with : List ℕ → ℕ → ℕ → Part
-part_with locator offset length = record { locator = locator; offset = offset; length = length }
-
-same_part : (l : List ℕ) (o o' n n' : ℕ) → o ≡ o' → n ≡ n' → part_with l o n ≡ part_with l o' n'
-same_part l o o' n n' e f = ap (λ k. part_with l k n) e ∙ ap (part_with l o') f
-
 -- blocks behind both beginnings have the same parts
 parts_same : (start : ℕ) (s t : Span) (ls : List (List ℕ)) → s.from ≤ start → t.from ≤ start → s.to ≡ t.to → parts_in start s ls ≡ parts_in start t ls
 parts_same start s t [] hs ht e = refl
 parts_same start s t (l ∷ ls) hs ht e =
-    ap (λ p. kept p ++ parts_in (start + size l) s ls) (same_part l (max start s.from - start) (max start t.from - start) (min (start + size l) s.to - max start s.from) (min (start + size l) t.to - max start t.from) (omega arith) (omega arith))
+    ap (λ p. kept p ++ parts_in (start + size l) s ls) (same_part l l (max start s.from - start) (max start t.from - start) (min (start + size l) s.to - max start s.from) (min (start + size l) t.to - max start t.from) refl (omega arith) (omega arith))
     ∙ ap (λ ps. kept (part_in start t l) ++ ps) (parts_same (start + size l) s t ls (omega arith) (omega arith) e)
 
 -- of one block: three cases, by whether either half has no part in it
@@ -36,14 +30,14 @@ parts_same start s t (l ∷ ls) hs ht e =
 cut_first : (start : ℕ) (a b : Span) (l : List ℕ) (rest : List Part) → a.to ≡ b.from → a.from ≤ a.to → b.from ≤ b.to → a.to ≤ start + size l → (part_in start a l).length ≤ 0
     → joined_parts ((kept (part_in start a l) ++ kept (part_in start b l)) ++ rest) ≡ joined_parts (kept (part_in start (both_spans a b) l) ++ rest)
 cut_first start a b l rest e fa fb h none =
-    let same = same_part l (max start b.from - start) (max start a.from - start) (min (start + size l) b.to - max start b.from) (min (start + size l) b.to - max start a.from) (omega arith) (omega arith) in
+    let same = same_part l l (max start b.from - start) (max start a.from - start) (min (start + size l) b.to - max start b.from) (min (start + size l) b.to - max start a.from) refl (omega arith) (omega arith) in
     ap (λ ps. joined_parts ((ps ++ kept (part_in start b l)) ++ rest)) (kept_none (part_in start a l) (omega arith))
     ∙ ap (λ p. joined_parts (kept p ++ rest)) same
 
 cut_second : (start : ℕ) (a b : Span) (l : List ℕ) (rest : List Part) → a.to ≡ b.from → a.from ≤ a.to → b.from ≤ b.to → a.to ≤ start + size l → 0 < (part_in start a l).length → (part_in start b l).length ≤ 0
     → joined_parts ((kept (part_in start a l) ++ kept (part_in start b l)) ++ rest) ≡ joined_parts (kept (part_in start (both_spans a b) l) ++ rest)
 cut_second start a b l rest e fa fb h some none =
-    let same = same_part l (max start a.from - start) (max start a.from - start) (min (start + size l) a.to - max start a.from) (min (start + size l) b.to - max start a.from) refl (omega arith) in
+    let same = same_part l l (max start a.from - start) (max start a.from - start) (min (start + size l) a.to - max start a.from) (min (start + size l) b.to - max start a.from) refl refl (omega arith) in
     ap (λ ps. joined_parts ((kept (part_in start a l) ++ ps) ++ rest)) (kept_none (part_in start b l) (omega arith))
     ∙ ap (λ ps. joined_parts (ps ++ rest)) (append-nil (kept (part_in start a l)))
     ∙ ap (λ p. joined_parts (kept p ++ rest)) same
@@ -54,7 +48,7 @@ cut_both start a b l rest e fa fb h some_a some_b =
     let pa = part_in start a l in
     let pb = part_in start b l in
     let whole : part_in start (both_spans a b) l ≡ both_parts pa pb =
-    same_part l (max start a.from - start) (max start a.from - start) (min (start + size l) b.to - max start a.from) (min (start + size l) a.to - max start a.from + (min (start + size l) b.to - max start b.from)) refl (omega arith) in
+    same_part l l (max start a.from - start) (max start a.from - start) (min (start + size l) b.to - max start a.from) (min (start + size l) a.to - max start a.from + (min (start + size l) b.to - max start b.from)) refl refl (omega arith) in
     let touching : touch pa pb ≡ true =
     and_from (bytes_eq (stripped l) (stripped l)) (eqb (max start a.from - start + (min (start + size l) a.to - max start a.from)) (max start b.from - start))
     ((bytes_decides (stripped l) (stripped l)).1 refl) (eq-eqb (max start a.from - start + (min (start + size l) a.to - max start a.from)) (max start b.from - start) (omega arith)) in
@@ -107,7 +101,7 @@ split_behind start a b l ls rest e fa fb h ih =
     let more_a = parts_in end a ls in
     let more_b = parts_in end b ls in
     let more = parts_in end (both_spans a b) ls in
-    let same = same_part l (max start a.from - start) (max start a.from - start) (min (start + size l) a.to - max start a.from) (min (start + size l) b.to - max start a.from) refl (omega arith) in
+    let same = same_part l l (max start a.from - start) (max start a.from - start) (min (start + size l) a.to - max start a.from) (min (start + size l) b.to - max start a.from) refl refl (omega arith) in
     ap (λ ps. joined_parts ((pa ++ more_a) ++ ((ps ++ more_b) ++ rest))) (kept_none (part_in start b l) (omega arith))
     ∙ ap joined_parts (append_assoc pa more_a (more_b ++ rest))
     ∙ joined_behind_same touch both_parts pa (more_a ++ (more_b ++ rest)) (more ++ rest) ih

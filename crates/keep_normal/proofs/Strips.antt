@@ -6,8 +6,8 @@ use Rattle.std.proofs.lemmas.List.{take-take, drop-take, length-take, take_all, 
 use Rattle.std.proofs.lemmas.List.Folds.{length-prefix_len}
 use Rattle.keep_spec.specs.Digest.{is_digest}
 use Rattle.keep_spec.specs.Locator.{is_locator, is_number, is_hint, number, size_digits, stripped, hints, size, cut_before_plus}
+use Rattle.keep_spec.proofs.Fronts.{prefix_len-take}
 use Rattle.keep_spec.proofs.LocatorText.{locator_parts, locator_from_parts}
-use Rattle.keep_normal.proofs.TokenText.{prefix_len-take}
 
 -- how many digits stand behind the plus
 abbrev pub digits_at : List ℕ → ℕ

@@ -6,4 +6,3 @@ pub mod Known
 pub mod Normal
 pub mod Placed
 pub mod Sound
-pub mod Stripped

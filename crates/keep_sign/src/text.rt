@@ -1,15 +1,14 @@
 // The permission hints of a manifest's locators.
-ghost use Rattle.std.specs.Prelude.{◌≡◌, ◌++◌, ◌<◌, ◌≤◌, not, [], List, ℕ, length, if◌then◌else◌, IfOk, IfErr, IfSome, OnOk, IsSome, MatchOption};
-ghost use Rattle.std.specs.List.{prefix_len};
+ghost use Rattle.std.specs.Prelude.{◌≡◌, ◌++◌, [], if◌then◌else◌, IfOk, IfErr, OnOk, IsSome};
 ghost use Rattle.keep_spec.specs.Locator.{is_permission_hint};
 ghost use Rattle.keep_spec.specs.Manifest.{manifest_of};
 ghost use Rattle.keep_spec.specs.Refusals.{bad};
-ghost use Rattle.keep_spec.specs.SignedText.{unsigned, permission_hint, signed, changed, ends_token, with_locators};
+ghost use Rattle.keep_spec.specs.SignedText.{unsigned, permission_hint, signed, changed, with_locators};
 ghost use Rattle.keep_manifest.specs.Reading.{IsCause};
 
 use crate::signature::{hex8, sign};
 use keep_locator::{Locator, first_hint, is_permission_hint};
-use keep_manifest::{BadManifest, read};
+use keep_manifest::{BadManifest, cut_token, read};
 use keep_spec::{Bytes, Digest, NoMemory};
 use std::alloc::Global;
 
@@ -32,7 +31,7 @@ pub fn sign_manifest(
     let _manifest = read(alloc, text)?;
     let mut out = Vec::with_capacity(alloc, text.len())?;
     let mut rest = text;
-    while let Some((part, end, behind)) = first_token(rest) {
+    while let Some((part, end, behind)) = cut_token(rest) {
         push_signed(&mut out, part, token, expiry, ttl, secret)?;
         out.extend_from_slice(end)?;
         rest = behind;
@@ -50,45 +49,12 @@ pub fn unsigned_manifest(alloc: Global, text: &[u8]) -> Result<Bytes, BadManifes
     let _manifest = read(alloc, text)?;
     let mut out = Vec::with_capacity(alloc, text.len())?;
     let mut rest = text;
-    while let Some((part, end, behind)) = first_token(rest) {
+    while let Some((part, end, behind)) = cut_token(rest) {
         push_without_permissions(&mut out, part)?;
         out.extend_from_slice(end)?;
         rest = behind;
     }
     Ok(Bytes::of(out))
-}
-
-// The first token, the space or newline that ends it, and the text behind; none of an empty text.
-fn first_token(text: &[u8]) -> Option<(&[u8], &[u8], &[u8])>
-    ensures parts { MatchOption result (text.now ≡ []) (λ p. (f : List ℕ → List ℕ)
-        → with_locators f text.now ≡ changed f p.0.now ++ p.1.now ++ with_locators f p.2.now) }
-    ensures shorter { IfSome result (λ p. length p.2.now < length text.now) }
-{
-    if text.len() == 0 {
-        return None;
-    }
-    let (token, ended) = text.split_at(token_len(text));
-    let (end, behind) = ended.split_at(ended.len().min(1));
-    Some((token, end, behind))
-}
-
-// How many bytes stand before the first space or newline.
-fn token_len(text: &[u8]) -> usize
-    ensures place { result ≡ prefix_len (λ c. not (ends_token c)) text.now }
-    ensures within { result ≤ length text.now }
-{
-    for (at, byte) in text.iter().enumerate() {
-        if ends_token(*byte) {
-            return at;
-        }
-    }
-    text.len()
-}
-
-fn ends_token(byte: u8) -> bool
-    ensures { result ≡ ends_token byte }
-{
-    matches!(byte, b' ' | b'\n')
 }
 
 // A token behind the text; where it is a locator, with one permission.

@@ -1,12 +1,11 @@
 -- The digits of a digest.
-use Rattle.std.proofs.Common.{◌≡◌, ℕ, suc, ◌+◌, ◌-◌, ◌*◌, ◌/◌, ◌%◌, ◌<◌, ◌≤◌, Bool, true, false, List, [], ◌∷◌, refl, sym, ap, ◌∙◌, arith, length, min, if◌then◌else◌, ◌==◌, ◌&&◌, ◌||◌, not, slice_index, Option, Some, None, Result, Ok, Err}
+use Rattle.std.proofs.Common.{◌≡◌, ℕ, suc, ◌+◌, ◌*◌, ◌/◌, ◌%◌, ◌<◌, Bool, true, List, [], ◌∷◌, refl, sym, ap, ◌∙◌, arith, length, min, if◌then◌else◌, ◌==◌, ◌&&◌, ◌||◌, not, slice_index, Some, None, Ok}
 use Rattle.std.proofs.lemmas.Bool.{agree_below_at, and_parts, and_from, eqb-true, eq-eqb, false_from_ne_true}
 use Rattle.std.proofs.lemmas.Option.{cond_some}
 use Rattle.std.proofs.lemmas.List.Sums.{prefix_len-le-length}
 use Rattle.std.proofs.lemmas.Bool.Decides.{nat_tests}
 use Rattle.std.specs.List.{list_all, prefix_len}
-use Rattle.hex.specs.declared.error.FromHexError.{FromHexError}
-use Rattle.hex.specs.Hex.{lower_digits, encode_with, encode_lower, IsBytes, decode_pairs, decode_sized, hex_digit_value, digit_or_error, pair_value, value_at, ◌>>=◌}
+use Rattle.hex.specs.Hex.{lower_digits, encode_with, encode_lower, IsBytes, decode_pairs, decode_sized, hex_digit_value, digit_or_error, pair_value, value_at}
 use Rattle.hex.proofs.HexLemmas.{length-encode_with}
 use Rattle.hex.proofs.Pairs.{cons_byte, decode_pairs-ok_pair, decode_sized-pairs}
 use Rattle.keep_spec.specs.Digest.{is_lower_digit, lower_digit_value, bytes_of_digits, is_digest, digest_of}

@@ -4,3 +4,4 @@ pub mod LocatorText
 pub mod Mounted
 pub mod NumberText
 pub mod PortableText
+pub mod TokenText

@@ -1,7 +1,7 @@
 -- Numbers in text, a digit at a time.
-use Rattle.std.proofs.Common.{◌≡◌, ℕ, zero, suc, ◌+◌, ◌-◌, ◌*◌, ◌^◌, ◌<◌, ◌≤◌, List, [], ◌∷◌, ◌++◌, true, Bool, nat_le, ◌&&◌, min, if◌then◌else◌, Option, Some, None, refl, sym, ap, ◌∙◌, arith, length, take, get_or}
+use Rattle.std.proofs.Common.{◌≡◌, ℕ, ◌+◌, ◌-◌, ◌*◌, ◌^◌, ◌<◌, ◌≤◌, List, [], ◌∷◌, ◌++◌, true, Bool, nat_le, ◌&&◌, min, if◌then◌else◌, Option, Some, None, refl, sym, ap, ◌∙◌, arith, length, take, get_or}
 use Rattle.std.proofs.lemmas.List.{take_more}
-use Rattle.std.proofs.Math.Nat.{pow-suc}
+use Rattle.std.proofs.Math.Nat.{pow-suc, pow-le-pow_right}
 use Rattle.std.proofs.lemmas.Bool.{and_parts, and_from, leb-true, le-leb, false_from_ne_true}
 use Rattle.std.proofs.lemmas.Bool.Decides.{nat_tests}
 use Rattle.std.proofs.lemmas.Option.{cond_some}
@@ -33,15 +33,8 @@ number-take-more text i lt digit = ap number (take_more text i 0 lt) ∙ number-
 pub ten-suc : (n : ℕ) → 10 ^ (n + 1) ≡ 10 ^ n * 10
 ten-suc n = grind (arith, pow-suc 10 n)
 
-pub ten-le-add : (n k : ℕ) → 10 ^ n ≤ 10 ^ (n + k)
-ten-le-add n zero = let e : n + 0 ≡ n = omega arith in rw e (omega arith)
-ten-le-add n (suc k) =
-    let step : 10 ^ (n + k + 1) ≡ 10 ^ (n + k) * 10 = ten-suc (n + k) in
-    let e : n + suc k ≡ n + k + 1 = omega arith in
-    rw e (omega (arith, ten-le-add n k, step))
-
 pub ten-le : (m n : ℕ) → m ≤ n → 10 ^ m ≤ 10 ^ n
-ten-le m n le = let e : m + (n - m) ≡ n = omega arith in rw e at (ten-le-add m (n - m))
+ten-le m n le = pow-le-pow_right (omega arith) le
 
 -- what the digits at the front say of the whole text
 pub is_number-parts : (text : List ℕ) → is_number text ≡ true → (1 ≤ length text) × (min 19 (prefix_len is_ascii_digit text) ≡ length text)

@@ -4,6 +4,7 @@ use Rattle.std.specs.List.{list_all, list_any, position_from}
 use Rattle.serde_json.specs.Data.{Data}
 use Rattle.serde_json.specs.Find.{get, as_str, as_object}
 use Rattle.keep_spec.specs.Json.{value_of, text_at, number_at, truth_or, list_at, option_filter, has_only, each_has_only}
+use Rattle.keep_spec.specs.Results.{◌>>=◌}
 use Rattle.keep_spec.specs.Uuid.{is_uuid, is_uuid_part, uuid_kind}
 use Rattle.keep_spec.specs.declared.config.Device.{Device}
 use Rattle.keep_spec.specs.declared.config.Server.{Server}
@@ -186,11 +187,6 @@ abbrev pub all_known : Data → Bool
 all_known d =
     has_only field_names d && each_has_only device_names (codes "devices") d
     && each_has_only server_names (codes "servers") d && each_has_only mount_names (codes "mounts") d
-
-infixl 10 ◌>>=◌
-abbrev pub ◌>>=◌ : {A B E : Type 0} → Result A E → (A → Result B E) → Result B E
-Ok x >>= next = next x
-Err e >>= next = Err e
 
 -- the value of a field that passes its test, or else the field
 unfoldable pub field : {X : Type 0} → Field → (X → Bool) → Option X → Result X Field

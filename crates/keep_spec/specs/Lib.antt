@@ -8,6 +8,8 @@ pub mod Manifest
 pub mod Names
 pub mod Portable
 pub mod Refusals
+pub mod Results
 pub mod Sign
 pub mod SignedText
+pub mod Stripped
 pub mod Uuid

@@ -1,6 +1,8 @@
 -- Where a text that is no manifest is refused: the first refusal from the left, at the offset of the token's first byte (this project's own rule).
 use Rattle.std.specs.Prelude.{ℕ, ◌+◌, ◌==◌, not, List, [], ◌∷◌, length, Option, None, Some, option_map, if◌then◌else◌}
 use Rattle.std.specs.List.{slice_split}
+use Rattle.std.specs.Option.{option_or}
+pub use Rattle.std.specs.Option.{option_or as or_else}
 use Rattle.keep_spec.specs.Names.{decode, is_stream_name}
 use Rattle.keep_spec.specs.Locator.{is_locator, size}
 use Rattle.keep_spec.specs.Manifest.{segment_form, is_named, is_within}
@@ -11,11 +13,6 @@ use Rattle.keep_spec.specs.declared.manifest.Kind.TheVariants.{BadStream, BadLoc
 
 abbrev pub refused : ℕ → Kind → Option Refusal
 refused at kind = Some (record { at = at; kind = kind })
-
--- the first where there is one, else the second
-abbrev pub or_else : {X : Type 0} → Option X → Option X → Option X
-or_else None second = second
-or_else (Some x) second = Some x
 
 abbrev pub bad_form : ℕ → Option Segment → Option Kind
 bad_form total None = Some BadSegment
@@ -29,7 +26,7 @@ bad_segment total token = bad_form total (segment_form token)
 abbrev pub bad_segments : ℕ → ℕ → List (List ℕ) → Option Refusal
 bad_segments at total [] = None
 bad_segments at total (token ∷ tokens) =
-    or_else (option_map (λ kind. record { at = at; kind = kind }) (bad_segment total token)) (bad_segments (at + length token + 1) total tokens)
+    option_or (option_map (λ kind. record { at = at; kind = kind }) (bad_segment total token)) (bad_segments (at + length token + 1) total tokens)
 
 -- what follows locators of `total` bytes in a line that ends at `end`
 abbrev pub bad_rest : ℕ → ℕ → ℕ → List (List ℕ) → Option Refusal
@@ -56,8 +53,8 @@ bad_line at line = bad_tokens at (at + length line) (slice_split (λ b. b == 32)
 -- the pieces of a text between its newlines; what stands behind the last one is judged as a line, and its end then
 abbrev pub bad_pieces : ℕ → List (List ℕ) → Option Refusal
 bad_pieces at [] = None
-bad_pieces at (last ∷ []) = if length last == 0 then None else or_else (bad_line at last) (refused (at + length last) NoNewline)
-bad_pieces at (line ∷ next ∷ more) = or_else (bad_line at line) (bad_pieces (at + length line + 1) (next ∷ more))
+bad_pieces at (last ∷ []) = if length last == 0 then None else option_or (bad_line at last) (refused (at + length last) NoNewline)
+bad_pieces at (line ∷ next ∷ more) = option_or (bad_line at line) (bad_pieces (at + length line + 1) (next ∷ more))
 
 -- the first refusal of a text, and none where it is a manifest
 unfoldable pub bad : List ℕ → Option Refusal

@@ -1,6 +1,6 @@
 use Rattle.std.proofs.Common.{◌∙◌}
 use Rattle.keep_spec.specs.Locator.{stripped}
-use Rattle.keep_normal.proofs.TokenText.{all-through}
+use Rattle.keep_spec.proofs.TokenText.{all-through}
 use Rattle.keep_normal.proofs.hash.stripped_text.Goals as goal
 
 pub returns-clause-text : goal.returns-clause-text

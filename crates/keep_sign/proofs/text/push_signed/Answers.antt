@@ -1,5 +1,5 @@
 use Rattle.std.proofs.Common.{sym, ◌∙◌}
-use Rattle.keep_sign.proofs.TokenText.{signed-none, signed-some}
+use Rattle.keep_sign.proofs.SignedToken.{signed-none, signed-some}
 use Rattle.keep_sign.proofs.text.push_signed.Goals as goal
 
 pub returns-then-is_empty_block : goal.returns-then-is_empty_block

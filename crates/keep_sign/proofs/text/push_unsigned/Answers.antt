@@ -1,6 +1,6 @@
 use Rattle.std.proofs.Common.{◌++◌, ap, sym, ◌∙◌, append_assoc}
 use Rattle.keep_spec.specs.Locator.{stripped, hints, cut_before_plus}
-use Rattle.keep_sign.proofs.TokenText.{others, unsigned-is}
+use Rattle.keep_sign.proofs.SignedToken.{others, unsigned-is}
 use Rattle.keep_sign.proofs.text.push_unsigned.Goals as goal
 
 pub loop-hint-init : goal.loop-hint-init

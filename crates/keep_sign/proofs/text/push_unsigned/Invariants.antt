@@ -1,7 +1,7 @@
 use Rattle.std.proofs.Common.{◌≡◌, ◌++◌, length}
 use Rattle.keep_spec.specs.Locator.{cut_before_plus}
 use Rattle.keep_spec.specs.SignedText.{unsigned}
-use Rattle.keep_sign.proofs.TokenText.{others}
+use Rattle.keep_sign.proofs.SignedToken.{others}
 use Rattle.keep_sign.proofs.text.push_unsigned.Given as goal
 
 abbrev pub invariant-loop-hint : goal.invariant-loop-hint

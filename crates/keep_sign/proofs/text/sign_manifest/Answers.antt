@@ -1,6 +1,6 @@
 use Rattle.std.proofs.Common.{◌∙◌}
 use Rattle.keep_spec.specs.SignedText.{signed}
-use Rattle.keep_sign.proofs.TokenText.{all-through}
+use Rattle.keep_spec.proofs.TokenText.{all-through}
 use Rattle.keep_sign.proofs.text.sign_manifest.Goals as goal
 
 pub returns-clause-text : goal.returns-clause-text

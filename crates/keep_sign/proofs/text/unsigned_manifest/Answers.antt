@@ -1,6 +1,6 @@
 use Rattle.std.proofs.Common.{◌∙◌}
 use Rattle.keep_spec.specs.SignedText.{unsigned}
-use Rattle.keep_sign.proofs.TokenText.{all-through}
+use Rattle.keep_spec.proofs.TokenText.{all-through}
 use Rattle.keep_sign.proofs.text.unsigned_manifest.Goals as goal
 
 pub returns-clause-text : goal.returns-clause-text

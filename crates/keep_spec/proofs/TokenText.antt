@@ -1,28 +1,14 @@
--- The first token of a text.
-use Rattle.std.proofs.Common.{◌≡◌, ℕ, zero, suc, ◌+◌, ◌<◌, min, Bool, true, false, not, cond, List, [], ◌∷◌, ◌++◌, length, take, drop, if◌then◌else◌, inl, inr, refl, sym, ap, ◌∙◌, arith, append-nil}
+-- The first token of a text, and a text with each of its locators changed, token by token.
+use Rattle.std.proofs.Common.{◌≡◌, ℕ, suc, ◌+◌, ◌<◌, Bool, not, List, [], ◌∷◌, ◌++◌, length, take, drop, if◌then◌else◌, inl, inr, refl, sym, ap, ◌∙◌, arith, append-nil}
 use Rattle.std.specs.List.{prefix_len, onto_first, flat_map}
 use Rattle.std.proofs.lemmas.Bool.{cases_Bool}
 use Rattle.std.proofs.lemmas.List.{drop-take, take-take, drop-drop}
 use Rattle.std.proofs.lemmas.List.Folds.{length-prefix_len}
 use Rattle.keep_spec.specs.SignedText.{ends_token, cut_tokens, token_of, changed, with_locators}
+use Rattle.keep_spec.proofs.Fronts.{prefix_len-yes, prefix_len-no, prefix_len-take}
 
 abbrev in_token : ℕ → Bool
 in_token c = not (ends_token c)
-
-front-passes : (p : ℕ → Bool) (x : ℕ) (xs : List ℕ) → p x ≡ true → prefix_len p (x ∷ xs) ≡ suc (prefix_len p xs)
-front-passes p x xs passes = ap (λ b. cond b (1 + prefix_len p xs) 0) passes ∙ omega arith
-
-front-fails : (p : ℕ → Bool) (x : ℕ) (xs : List ℕ) → p x ≡ false → prefix_len p (x ∷ xs) ≡ 0
-front-fails p x xs fails = ap (λ b. cond b (1 + prefix_len p xs) 0) fails
-
-pub prefix_len-take : (p : ℕ → Bool) (n : ℕ) (xs : List ℕ) → prefix_len p (take n xs) ≡ min n (prefix_len p xs)
-prefix_len-take p zero xs = omega arith
-prefix_len-take p (suc n) [] = omega arith
-prefix_len-take p (suc n) (x ∷ xs) =
-    elim (cases_Bool (p x)) [
-      | inl passes ↦ omega (arith, front-passes p x (take n xs) passes, front-passes p x xs passes, prefix_len-take p n xs)
-      | inr fails ↦ omega (arith, front-fails p x (take n xs) fails, front-fails p x xs fails)
-    ]
 
 -- the first piece goes up to and with what ends it
 abbrev IsFirst : ℕ → List ℕ → Type 0
@@ -33,8 +19,8 @@ unfolding cut_tokens
 first-by x xs onto =
     let cut : Bool → List (List ℕ) = λ b. if b then (x ∷ []) ∷ cut_tokens xs else onto_first x (cut_tokens xs) in
     elim (cases_Bool (ends_token x)) [
-      | inl ends ↦ ap cut ends ∙ sym (ap (λ n. take (suc n) (x ∷ xs) ∷ cut_tokens (drop (suc n) (x ∷ xs))) (front-fails in_token x xs (ap not ends)))
-      | inr goes ↦ ap cut goes ∙ onto ∙ sym (ap (λ n. take (suc n) (x ∷ xs) ∷ cut_tokens (drop (suc n) (x ∷ xs))) (front-passes in_token x xs (ap not goes)))
+      | inl ends ↦ ap cut ends ∙ sym (ap (λ n. take (suc n) (x ∷ xs) ∷ cut_tokens (drop (suc n) (x ∷ xs))) (prefix_len-no in_token x xs (ap not ends)))
+      | inr goes ↦ ap cut goes ∙ onto ∙ sym (ap (λ n. take (suc n) (x ∷ xs) ∷ cut_tokens (drop (suc n) (x ∷ xs))) (prefix_len-yes in_token x xs (ap not goes)))
     ]
 
 cut-first : (x : ℕ) (xs : List ℕ) → IsFirst x xs

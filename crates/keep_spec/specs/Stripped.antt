@@ -5,10 +5,10 @@ use Rattle.keep_spec.specs.Locator.{stripped}
 use Rattle.keep_spec.specs.SignedText.{with_locators}
 use Rattle.keep_spec.specs.declared.portable.Portable.{Portable}
 
--- the text with each locator cut after its size; all else stays
+-- the text with each locator cut behind its size; all else stays
 abbrev pub stripped_text : List ℕ → List ℕ
 stripped_text text = with_locators stripped text
 
 -- the MD5 of the stripped text, and how many bytes it has
-abbrev pub portable : List ℕ → Portable
-portable text = record { digest = md5 (stripped_text text); size = length (stripped_text text) }
+abbrev pub portable_hash : List ℕ → Portable
+portable_hash text = record { digest = md5 (stripped_text text); size = length (stripped_text text) }
