@@ -1,11 +1,11 @@
 -- When an update answers Updated.
-use Rattle.std.proofs.Common.{◌≡◌, ◌≤◌, ◌<◌, ℕ, Bool, true, false, refl, sym, ◌∙◌, ap, subst, arith, ◌↔◌, Option, Some, None}
+use Rattle.std.proofs.Common.{◌≡◌, ◌<◌, ℕ, Bool, true, false, refl, sym, ◌∙◌, ap, subst, arith, ◌↔◌, Option, Some, None}
 use Rattle.std.specs.Prelude.{⊤, IsTrue, IfOk, Result, Ok, Err, ok_or, unwrap_or, nat_le, if◌then◌else◌}
 use Rattle.std.proofs.lemmas.Bool.{leb-true, leb-false}
 use Rattle.keep_spec.specs.Config.{Configuration, token_of}
 use Rattle.keep_spec.specs.declared.memory.NoMemory.{NoMemory}
 use Rattle.keep_spec.specs.declared.token.TokenId.{TokenId}
-use Rattle.keep_event.specs.Table.{State, Reply, stays, ◌>>=◌, owned, updatable, collection_of, is_owner, is_in_trash, versions_held, update, with_update, refusal_of}
+use Rattle.keep_event.specs.Table.{State, Reply, stays, ◌>>=◌, updatable, collection_of, is_owner, is_in_trash, versions_held, update, with_update, refusal_of}
 use Rattle.keep_event.specs.Requests.{rules_of, refusal_of_request}
 use Rattle.keep_event.specs.declared.table.Collection.{Collection}
 use Rattle.keep_event.specs.declared.table.NewRecord.{NewRecord}
@@ -15,7 +15,7 @@ use Rattle.keep_event.specs.declared.table.TableAnswer.TheVariants.{NoSuch, NotO
 use Rattle.keep_table.specs.Contents.{Contents, IsLine, is_updated}
 use Rattle.keep_event.specs.declared.table.TableRules.{TableRules}
 use Rattle.std.proofs.lemmas.Result.{IfOk-weaker}
-use Rattle.keep_collections.specs.Verdicts.{IsGood, IsGoodUpdate, IsUpdatable}
+use Rattle.keep_collections.specs.Verdicts.{IsGoodUpdate, IsUpdatable}
 use Rattle.keep_collections.proofs.Saves.{good-request, none-refused, refusal-never}
 
 -- ---- a collection that can be updated

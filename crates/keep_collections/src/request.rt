@@ -3,7 +3,9 @@ ghost use Rattle.std.specs.Prelude.{◌≡◌, ◌<◌, IfOk, IsTrue, Some, None
 ghost use Rattle.std.specs.List.{list_all};
 ghost use Rattle.keep_spec.specs.Locator.{is_locator};
 ghost use Rattle.keep_spec.specs.Manifest.{manifest_of};
-ghost use Rattle.keep_spec.specs.Refusals.{bad, or_else};
+ghost use Rattle.std.specs.Option.{option_or};
+ghost use Rattle.keep_spec.specs.Refusals.{bad};
+ghost use Rattle.keep_spec.specs.Stripped as stripped;
 ghost use Rattle.keep_spec.specs.SignedText.{unsigned, with_locators};
 ghost use Rattle.keep_event.specs.Requests as requests;
 ghost use Rattle.keep_collections.specs.Verdicts.{IsVerdict};
@@ -63,8 +65,8 @@ fn refusal_of(
 ) -> Result<Option<TableAnswer>, NoMemory>
     requires { IsTrue (list_all is_locator (requests.locators_in manifest.now)) }
     ensures { IfOk result (λ refusal. refusal ≡
-        or_else (requests.first_unsigned (requests.unsigned_because config.now request.now.token reading) 0 (requests.locators_in manifest.now))
-        (or_else (requests.wrong_hash computed.now request.now.portable) (requests.bad_want request.now.want))) }
+        option_or (requests.first_unsigned (requests.unsigned_because config.now request.now.token reading) 0 (requests.locators_in manifest.now))
+        (option_or (requests.wrong_hash computed.now request.now.portable) (requests.bad_want request.now.want))) }
 {
     let locators = locators_of(alloc, manifest)?;
     let unsigned = first_unsigned(config, request.token.as_slice(), reading, &locators);
@@ -80,7 +82,7 @@ fn refusal_of(
 // The portable hash of a manifest's text.
 fn hash_of(alloc: Global, text: &[u8]) -> Result<Portable, NoMemory>
     requires { bad text.now ≡ None }
-    ensures { IfOk result (λ p. p ≡ requests.portable_hash text.now) }
+    ensures { IfOk result (λ p. p ≡ stripped.portable_hash text.now) }
 {
     match portable_hash(alloc, text) {
         Ok(portable) => Ok(portable),
@@ -110,7 +112,7 @@ fn made_of(
 ) -> Result<NewRecord, NoMemory>
     requires manifest { manifest_of request.now.text ≡ Some manifest.now }
     requires good { bad request.now.text ≡ None }
-    requires portable { portable ≡ requests.portable_hash request.now.text }
+    requires portable { portable ≡ stripped.portable_hash request.now.text }
     requires want { request.now.want < 256 }
     ensures { IfOk result (λ made. made ≡ requests.made_of request.now) }
 {

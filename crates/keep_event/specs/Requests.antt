@@ -12,7 +12,7 @@ use Rattle.keep_spec.specs.Portable.{portable_text}
 use Rattle.keep_spec.specs.Refusals.{bad}
 use Rattle.keep_spec.specs.Sign.{verdict}
 use Rattle.keep_spec.specs.SignedText.{unsigned, with_locators}
-pub use Rattle.keep_spec.specs.Stripped.{portable_hash}
+use Rattle.keep_spec.specs.Stripped.{portable_hash}
 use Rattle.keep_spec.specs.declared.manifest.Manifest.{Manifest}
 use Rattle.keep_spec.specs.declared.manifest.Refusal.{Refusal}
 use Rattle.keep_spec.specs.declared.portable.Portable.{Portable}

@@ -14,7 +14,7 @@ use Rattle.keep_event.specs.declared.task.Task.TheVariants as T
 use Rattle.keep_event.specs.declared.task.TaskState.{TaskState}
 use Rattle.keep_event.specs.declared.task.TaskState.TheVariants as S
 use Rattle.keep_history.specs.Effects.{Scene, asked_at, effect_of_line}
-use Rattle.keep_history.specs.Names.{Names, state_of_name}
+use Rattle.keep_history.specs.Names.{state_of_name}
 use Rattle.keep_history.specs.Run.{config_for, is_empty, at_start}
 use Rattle.keep_history.specs.Script.{command_of}
 

@@ -1,5 +1,5 @@
 -- Open tasks stay in the form that may be asked.
-use Rattle.std.proofs.Common.{◌≡◌, ℕ, List, Option, None, Some, IfSome, Result, Ok, Err, subst}
+use Rattle.std.proofs.Common.{◌≡◌, ℕ, List, Option, None, Some, IfSome, Ok, subst}
 use Rattle.keep_spec.specs.Config.{Configuration}
 use Rattle.keep_event.specs.declared.task.Opening.{Opening}
 use Rattle.keep_event.specs.declared.task.Opening.TheVariants as Open

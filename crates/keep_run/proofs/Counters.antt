@@ -1,14 +1,13 @@
 -- A query of the table raises each of its counters by one at most.
-use Rattle.std.proofs.Common.{◌≡◌, ◌≤◌, ◌+◌, ◌^◌, ℕ, Bool, true, false, Option, None, Some, Result, Ok, Err, IsTrue, arith, refl, if◌then◌else◌}
-use Rattle.std.specs.Prelude.{nat_le, nat_lt, ◌&&◌}
+use Rattle.std.proofs.Common.{◌≡◌, ◌≤◌, ◌+◌, ℕ, Bool, true, false, Option, None, Some, Result, Ok, Err, arith, if◌then◌else◌}
+use Rattle.std.specs.Prelude.{nat_le}
 use Rattle.keep_spec.specs.Config.{Configuration, token_of}
 use Rattle.keep_spec.specs.declared.token.TokenId.{TokenId}
 use Rattle.keep_event.specs.Table as machine
 use Rattle.keep_event.specs.Table.{State, Reply, stays, unless_refused}
-use Rattle.keep_event.specs.Requests.{table_line, known, by_token, if_allowed, save, update_line, rules_of, refusal_of_request, made_of}
-use Rattle.keep_event.specs.declared.table.NewRecord.{NewRecord}
+use Rattle.keep_event.specs.Requests.{table_line, by_token, if_allowed, save, update_line, rules_of, refusal_of_request, made_of}
 use Rattle.keep_event.specs.declared.table.TableAnswer.{TableAnswer}
-use Rattle.keep_event.specs.declared.table.TableAnswer.TheVariants.{UnknownToken, TooManyVersions, Rows}
+use Rattle.keep_event.specs.declared.table.TableAnswer.TheVariants.{TooManyVersions}
 use Rattle.keep_event.specs.declared.table.TableQuery.{TableQuery}
 use Rattle.keep_event.specs.declared.table.TableQuery.TheVariants as TQ
 use Rattle.keep_run.specs.Commands.{AreFew, RisesByOne}

@@ -1,31 +1,19 @@
 -- Gets give what was put.
-use Rattle.std.proofs.Common.{◌≡◌, ℕ, zero, suc, ◌+◌, ◌==◌, Bool, true, false, List, [], ◌∷◌, ◌++◌, length, cond, Option, None, Some, IfSome, Result, Ok, Err, ◌⊎◌, inl, inr, refl, sym, ◌∙◌, ap, subst, option_and_then, arith, if◌then◌else◌}
-use Rattle.std.specs.Prelude.{⊤, nat_lt}
+use Rattle.std.proofs.Common.{◌≡◌, ℕ, zero, suc, ◌+◌, Bool, true, false, List, [], ◌∷◌, ◌++◌, length, Option, None, Some, IfSome, Result, Ok, Err, inl, inr, refl, ◌∙◌, ap, option_and_then, arith}
+use Rattle.std.specs.Prelude.{⊤}
 use Rattle.std.proofs.lemmas.Bool.{and_parts, eqb-true}
 use Rattle.std.proofs.lemmas.Slice.Eq.{bytes_eq-Decides}
-use Rattle.std.specs.List.{AllByRecursion}
 use Rattle.std.specs.Str.{bytes_eq}
-use Rattle.std.specs.Ordering.{match_ordering, nat_cmp, is_eq}
-use Rattle.std.specs.Cmp.Lexicographic.{slice_cmp}
-use Rattle.std.specs.BTreeMap.{insert_entry, is_at}
-use Rattle.std.specs.Map.{lookup}
-use Rattle.std.specs.declared.cmp.Ordering.{Ordering}
-use Rattle.std.specs.declared.cmp.Ordering.TheVariants.{Less, Equal, Greater}
 use Rattle.md5.specs.Md5.{md5}
-use Rattle.keep_spec.specs.Config.{Configuration, token_of}
+use Rattle.keep_spec.specs.Config.{Configuration}
 use Rattle.keep_spec.specs.Lines.{cut, text_of}
-use Rattle.keep_spec.specs.Locator.{stripped}
 use Rattle.keep_spec.specs.declared.config.Field.{Field}
 use Rattle.keep_spec.specs.declared.token.TokenId.{TokenId}
-use Rattle.keep_spec.specs.declared.unverified.Triple.{Triple}
-use Rattle.keep_spec.specs.declared.unverified.Unverified.{Unverified}
 use Rattle.keep_event.specs.Device as machine
 use Rattle.keep_event.specs.Device.{State, Reply}
 use Rattle.keep_event.specs.declared.names.Name.{Name}
 use Rattle.keep_event.specs.declared.names.Stored.{Stored}
 use Rattle.keep_event.specs.declared.device.DeviceAnswer.{DeviceAnswer}
-use Rattle.keep_event.specs.declared.device.DeviceAnswer.TheVariants as A
-use Rattle.keep_event.specs.declared.device.DeviceQuery.{DeviceQuery}
 use Rattle.keep_event.specs.declared.device.DeviceQuery.TheVariants as Q
 use Rattle.keep_event.specs.declared.task.Command.{Command}
 use Rattle.keep_event.specs.declared.task.Command.TheVariants as C
@@ -37,12 +25,12 @@ use Rattle.keep_event.specs.declared.task.Task.{Task}
 use Rattle.keep_event.specs.declared.task.Task.TheVariants as T
 use Rattle.keep_event.specs.declared.task.TaskState.{TaskState}
 use Rattle.keep_event.specs.declared.task.TaskState.TheVariants as S
-use Rattle.keep_history.specs.Effects.{Scene, Effect, Asking, Asked, Made, asked, fails_at, finished, reply_to, asked_at, rules_of, effect_of_line, effect_of_command, finish_state, finish_effect, task_effect, open_effect, names_after, state_after}
-use Rattle.keep_history.specs.Names.{Names, state_of_name, with_name}
+use Rattle.keep_history.specs.Effects.{Scene, Effect, Asking, asked, fails_at, finished, reply_to, asked_at, rules_of, effect_of_line, effect_of_command, finish_state, finish_effect, task_effect, open_effect, names_after, state_after}
+use Rattle.keep_history.specs.Names.{Names, state_of_name}
 use Rattle.keep_history.specs.Reads.{bytes_put, Read, given, given_by, read_by, IsAmong, IsOfPut, AreOfPuts, AreOfPutsUnder, ReadsOfPieces, ReadsAreOfPuts}
 use Rattle.keep_history.specs.Run.{config_for, is_empty, at_start}
 use Rattle.keep_history.specs.Script.{command_of}
-use Rattle.keep_history.specs.Tasks.{Next, asks, ends, ends_or, next, opened, compares, writes, fetches, touches, untrashes, restarts, writable, with_token, put_opened, get_opened, touch_opened, untrash_opened, where_writable, permitted, permitted_block, by_verdict, with_digest, has_other_digest, empty_locator, compare_end, write_end, fetch_end, touch_end, table_end, is_fault, Found, found_also, Brought, brought_also}
+use Rattle.keep_history.specs.Tasks.{Next, asks, ends, ends_or, next, opened, compares, writes, fetches, touches, untrashes, restarts, writable, compare_end, write_end, fetch_end, touch_end, table_end, Found, found_also, Brought, brought_also}
 use Rattle.keep_run.specs.Asked.{fetch_outcome}
 use Rattle.keep_run.specs.Runs.{BothTold}
 use Rattle.keep_run.proofs.Held.{HoldAll, BringsAll, all-found, step-all}

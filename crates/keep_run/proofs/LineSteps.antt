@@ -10,7 +10,6 @@ use Rattle.keep_spec.specs.Config.{Configuration}
 use Rattle.keep_event.specs.Device.{State}
 use Rattle.keep_event.specs.Table as tables
 use Rattle.keep_event.specs.Requests.{table_line}
-use Rattle.keep_event.specs.declared.table.TableAnswer.{TableAnswer}
 use Rattle.keep_event.specs.declared.table.TableQuery.{TableQuery}
 use Rattle.keep_event.specs.declared.task.Command.{Command}
 use Rattle.keep_event.specs.declared.task.Command.TheVariants as C

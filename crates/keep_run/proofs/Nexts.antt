@@ -10,7 +10,7 @@ use Rattle.keep_event.specs.declared.task.Outcome.TheVariants as O
 use Rattle.keep_event.specs.declared.task.Task.{Task}
 use Rattle.keep_event.specs.declared.task.Task.TheVariants as T
 use Rattle.keep_history.specs.Tasks.{asks, ends, next, compares, writes, fetches, touches, untrashes, restarts, compare_end, write_end, fetch_end, touch_end, ends_or, writable, is_read_only, is_fault, nothing, fetched_none, found_by}
-use Rattle.keep_run.specs.Asked.{write_outcome, fetch_outcome, single_query, single_outcome, on_writable, device_of, is_put}
+use Rattle.keep_run.specs.Asked.{write_outcome, single_query, single_outcome, on_writable, device_of, is_put}
 
 module _ (c : Configuration) (id : TokenId) (token bytes : List ℕ) (here : writable c ≡ 0 ∷ []) where
   pub put-compares : next c (T.Put token id bytes) [] ≡ asks 0 (Q.CompareTouch bytes (Some id))

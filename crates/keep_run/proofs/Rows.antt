@@ -1,6 +1,5 @@
 -- A text that isn't a manifest isn't signed; the digits of a collection's number.
-use Rattle.std.proofs.Common.{◌≡◌, ◌≤◌, ◌-◌, ℕ, List, ◌++◌, length, take, replicate, Option, None, Some, is_some, false, refl, sym, ◌∙◌, ap, subst, append_assoc, arith}
-use Rattle.std.specs.Prelude.{IsSome}
+use Rattle.std.proofs.Common.{◌≡◌, ◌≤◌, ℕ, List, take, replicate, Option, None, Some, is_some, false, refl, sym, ◌∙◌, ap}
 use Rattle.std.proofs.lemmas.List.{take-replicate}
 use Rattle.keep_spec.specs.Config.{Configuration}
 use Rattle.keep_spec.specs.Manifest.{manifest_of}

@@ -2,7 +2,6 @@
 use Rattle.std.specs.Prelude.{ℕ, ◌+◌, ◌==◌, not, List, [], ◌∷◌, length, Option, None, Some, option_map, if◌then◌else◌}
 use Rattle.std.specs.List.{slice_split}
 use Rattle.std.specs.Option.{option_or}
-pub use Rattle.std.specs.Option.{option_or as or_else}
 use Rattle.keep_spec.specs.Names.{decode, is_stream_name}
 use Rattle.keep_spec.specs.Locator.{is_locator, size}
 use Rattle.keep_spec.specs.Manifest.{segment_form, is_named, is_within}

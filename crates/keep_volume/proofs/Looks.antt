@@ -1,5 +1,5 @@
 -- A look through the buckets of an index is a look through all its names.
-use Rattle.std.proofs.Common.{◌≡◌, ℕ, List, [], ◌∷◌, ◌++◌, Bool, true, false, Option, None, Some, option_map, refl, ◌∙◌, ap, sym, subst, ◌≤◌}
+use Rattle.std.proofs.Common.{◌≡◌, ℕ, List, [], ◌∷◌, ◌++◌, Bool, true, false, Some, option_map, refl, ◌∙◌, ap, sym, subst, ◌≤◌}
 use Rattle.std.specs.Prelude.{is_some, if◌then◌else◌}
 use Rattle.std.specs.List.{find as list_find}
 use Rattle.keep_event.specs.Store.{above, IsAscending}

@@ -1,4 +1,4 @@
-use Rattle.std.proofs.Common.{[], refl, sym, ◌∙◌}
+use Rattle.std.proofs.Common.{[], sym, ◌∙◌}
 use Rattle.keep_run.proofs.Asks.{ask-end}
 use Rattle.keep_run.proofs.Nexts.{single-none}
 use Rattle.keep_run.proofs.Replies.{if_told, none_when}

@@ -1,5 +1,4 @@
 use Rattle.std.proofs.Common.{[], ◌+◌, Ok, refl, sym, ◌∙◌, ap, arith}
-use Rattle.keep_history.specs.Effects.{asked}
 use Rattle.keep_history.specs.Tasks.{ends}
 use Rattle.keep_run.specs.Asked.{IsPartFinished, single_outcome}
 use Rattle.keep_run.proofs.Asks.{ask-end, ask-more, part-none, part-more}

@@ -1,4 +1,4 @@
-use Rattle.std.proofs.Common.{◌≡◌, ◌∙◌, suc, ap, sym, arith, add-one, take, map}
+use Rattle.std.proofs.Common.{◌≡◌, ◌∙◌, suc, ap, arith, add-one, take, map}
 use Rattle.keep_event.specs.Store.{put}
 use Rattle.keep_volume.specs.Index.{total, sized_held}
 use Rattle.keep_volume.proofs.Opening.{next-name, next-total}
