@@ -14,7 +14,7 @@ use Rattle.keep_spec.specs.Stripped.{portable_hash}
 use Rattle.keep_spec.specs.declared.manifest.Refusal.{Refusal}
 use Rattle.keep_spec.specs.declared.portable.Portable.{Portable}
 use Rattle.keep_spec.specs.declared.token.TokenId.{TokenId}
-use Rattle.keep_spec.specs.declared.unverified.Triple.{Triple}
+use Rattle.keep_spec.specs.declared.unverified.Verified.{Verified}
 use Rattle.keep_spec.specs.declared.unverified.Unverified.{Unverified}
 use Rattle.keep_event.specs.Requests.{refused_at, bad_manifest, bad_signature, cause_of, unsigned_because, first_unsigned, locators_of, wrong_hash, bad_want, refusal_of_request}
 use Rattle.keep_spec.specs.declared.memory.NoMemory.{NoMemory}
@@ -103,12 +103,12 @@ none-unless : {X : Type 0} (b : Bool) (x : X) → b ≡ true → (if b then None
 none-unless true x e = refl
 none-unless false x e = absurd (cc)
 
-because-none : (b : Bool) (r : Result Triple Unverified) → (if b then None else cause_of r) ≡ None → IsTrue b ⊎ IsOk r
+because-none : (b : Bool) (r : Result Verified Unverified) → (if b then None else cause_of r) ≡ None → IsTrue b ⊎ IsOk r
 because-none true r e = inl refl
 because-none false (Ok triple) e = inr refl
 because-none false (Err why) e = absurd (cc)
 
-none-because : (b : Bool) (r : Result Triple Unverified) → IsTrue b ⊎ IsOk r → (if b then None else cause_of r) ≡ None
+none-because : (b : Bool) (r : Result Verified Unverified) → IsTrue b ⊎ IsOk r → (if b then None else cause_of r) ≡ None
 none-because true r h = refl
 none-because false (Ok triple) h = refl
 none-because false (Err why) h = elim h [ inl e ↦ absurd (cc) | inr e ↦ absurd (cc) ]

@@ -17,7 +17,7 @@ use Rattle.keep_spec.specs.declared.manifest.Manifest.{Manifest}
 use Rattle.keep_spec.specs.declared.manifest.Refusal.{Refusal}
 use Rattle.keep_spec.specs.declared.portable.Portable.{Portable}
 use Rattle.keep_spec.specs.declared.token.TokenId.{TokenId}
-use Rattle.keep_spec.specs.declared.unverified.Triple.{Triple}
+use Rattle.keep_spec.specs.declared.unverified.Verified.{Verified}
 use Rattle.keep_spec.specs.declared.unverified.Unverified.{Unverified}
 use Rattle.keep_event.specs.Table.{State, Reply, stays, begin_round, create, updatable, refusal_of, update, read, set_trash, restore, sweep, scan}
 use Rattle.keep_event.specs.declared.table.TableRules.{TableRules}
@@ -48,7 +48,7 @@ locators_in m = flat_map (λ s. s.locators) m.streams
 abbrev pub locators_of : List ℕ → List (List ℕ)
 locators_of text = option_map_or locators_in (manifest_of text) []
 
-abbrev pub cause_of : Result Triple Unverified → Option Unverified
+abbrev pub cause_of : Result Verified Unverified → Option Unverified
 cause_of (Ok triple) = None
 cause_of (Err why) = Some why
 

@@ -7,7 +7,7 @@ use Rattle.std.specs.Cmp.Lexicographic.{slice_cmp}
 use Rattle.std.specs.List.Sorted.{IsStrictlySortedBy}
 use Rattle.keep_event.specs.declared.names.Name.{Name}
 use Rattle.keep_event.specs.declared.names.Stored.{Stored}
-use Rattle.keep_event.specs.declared.names.Sized.{Sized}
+use Rattle.keep_event.specs.declared.names.Metadata.{Metadata}
 use Rattle.keep_event.specs.declared.names.Held.{Held}
 
 -- by digest, then no deadline first, then by deadline
@@ -70,7 +70,7 @@ abbrev pub rename : Name → Name → ℕ → List (Name × Stored) → Option S
 rename from to mtime es o = move (with_time mtime) from to es o
 
 -- what a caller learns of a name
-abbrev pub size_of : Stored → Sized
+abbrev pub size_of : Stored → Metadata
 size_of s = record { mtime = s.mtime; size = length s.bytes }
 
 abbrev pub held_of : Name × Stored → Held
@@ -88,12 +88,12 @@ Becomes old new f = new ≡ option_map f old
 abbrev pub Stays : {A : Type 0} → Option A → Option A → Type 0
 Stays old new = new ≡ old
 
-abbrev pub with_mtime : ℕ → Sized → Sized
+abbrev pub with_mtime : ℕ → Metadata → Metadata
 with_mtime mtime s = record { mtime = mtime; size = s.size }
 
 -- the same as a device remembers it
-abbrev pub sized : Name × Stored → Name × Sized
+abbrev pub sized : Name × Stored → Name × Metadata
 sized e = (e.0, size_of e.1)
 
-abbrev pub sizes : List (Name × Stored) → List (Name × Sized)
+abbrev pub sizes : List (Name × Stored) → List (Name × Metadata)
 sizes es = map sized es

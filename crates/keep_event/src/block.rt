@@ -70,12 +70,12 @@ impl Block {
     }
 
     /// The same block again, without hashing it again.
-    pub fn copied(&self, alloc: Global) -> Result<Block, NoMemory>
+    pub fn duplicate(&self, alloc: Global) -> Result<Block, NoMemory>
         ensures { IfOk result (λ b. b ≡ self.now) }
     {
         Ok(Block {
             digest: self.digest,
-            bytes: self.bytes.copied(alloc)?,
+            bytes: self.bytes.duplicate(alloc)?,
         })
     }
 }

@@ -15,7 +15,7 @@ pub use block::{Block, TooLong};
 pub use device::{DeviceAnswer, DeviceQuery, DeviceRules};
 pub use event::{Answer, Event, Journal, Place, Query};
 pub use lists::{Entry, Lists, PullItem, TrashItem};
-pub use names::{Held, Name, Sized, Stored};
+pub use names::{Held, Metadata, Name, Stored};
 pub use table::{
     Collection, NewRecord, Record, SaveRequest, ScanRow, Standing, TableAnswer, TableQuery,
     TableRules,

@@ -36,7 +36,7 @@ pub struct Lists {
 }
 
 impl PullItem {
-    pub fn copied(&self, alloc: Global) -> Result<PullItem, NoMemory>
+    pub fn duplicate(&self, alloc: Global) -> Result<PullItem, NoMemory>
         ensures { IfOk result (λ item. item ≡ self.now) }
     {
         Ok(PullItem {
@@ -48,7 +48,7 @@ impl PullItem {
 }
 
 impl Lists {
-    pub fn copied(&self, alloc: Global) -> Result<Lists, NoMemory>
+    pub fn duplicate(&self, alloc: Global) -> Result<Lists, NoMemory>
         ensures { IfOk result (λ lists. lists ≡ self.now) }
     {
         Ok(Lists {
@@ -63,7 +63,7 @@ fn pull_copied(alloc: Global, items: &[PullItem]) -> Result<Vec<PullItem>, NoMem
 {
     let mut copy = Vec::with_capacity(alloc, items.len())?;
     for item in items {
-        if copy.push(item.copied(alloc)?).is_err() {
+        if copy.push(item.duplicate(alloc)?).is_err() {
             return Err(NoMemory);
         }
     }

@@ -18,7 +18,7 @@ pub struct Stored {
 
 /// The time (nanoseconds since 1970) and the size in bytes of what is kept under a name.
 #[derive(Clone, Copy, Debug, PartialEq, Eq)]
-pub struct Sized {
+pub struct Metadata {
     pub mtime: u64,
     pub size: u64,
 }

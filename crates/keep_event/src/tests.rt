@@ -17,7 +17,7 @@ const ZEROS: [u8; 16] = [
 fn a_block_has_the_md5_of_its_bytes(rt: HostRuntime) -> Result<(), Fail> {
     let block = Block::of(Bytes::of(Vec::from_slice(rt.alloc(), b"foo")?))?;
     assert!(rt; block.digest() == Digest::of_md5(FOO));
-    let copy = block.copied(rt.alloc())?;
+    let copy = block.duplicate(rt.alloc())?;
     assert!(rt; copy.digest() == Digest::of_md5(FOO));
     assert_eq!(rt; copy.into_bytes().as_slice(), b"foo".as_slice());
     Ok(())
@@ -57,7 +57,7 @@ fn lists_are_copied(rt: HostRuntime) -> Result<(), Fail> {
         trash: Items::of(Vec::from_slice(rt.alloc(), &[trash])?),
         pull: Items::of(pulls),
     };
-    let copy = lists.copied(rt.alloc())?;
+    let copy = lists.duplicate(rt.alloc())?;
     assert_eq!(rt; copy.trash.as_slice(), [trash].as_slice());
     assert_eq!(rt; copy.pull.len(), 1);
     for item in copy.pull.as_slice() {

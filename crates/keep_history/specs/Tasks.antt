@@ -9,7 +9,7 @@ use Rattle.keep_spec.specs.Locator.{is_locator, locator_front, is_empty_block, d
 use Rattle.keep_spec.specs.Config.{Configuration, token_of}
 use Rattle.keep_spec.specs.declared.config.Device.{Device}
 use Rattle.keep_spec.specs.declared.token.TokenId.{TokenId}
-use Rattle.keep_spec.specs.declared.unverified.Triple.{Triple}
+use Rattle.keep_spec.specs.declared.unverified.Verified.{Verified}
 use Rattle.keep_spec.specs.declared.unverified.Unverified.{Unverified}
 use Rattle.keep_spec.specs.declared.unverified.Unverified.TheVariants as U
 use Rattle.keep_spec.specs.Manifest.{manifest_of, number_of}
@@ -72,7 +72,7 @@ put_opened c id token bytes hash =
     else Ok (T.Put token id bytes)
 
 -- the digest that a verdict lets a token ask for
-abbrev pub by_verdict : Result Triple Unverified → Result (List ℕ) Outcome
+abbrev pub by_verdict : Result Verified Unverified → Result (List ℕ) Outcome
 by_verdict (Ok triple) = Ok triple.digest
 by_verdict (Err U.Missing) = Err O.Forbidden
 by_verdict (Err (U.Expired expiry)) = Err (O.Expired expiry)

@@ -8,7 +8,7 @@ use keep_config::Config;
 use keep_event::{Block, Opening, Outcome, TableQuery, Task};
 use keep_locator::Locator;
 use keep_sign::verify;
-use keep_spec::{Bytes, Digest, NoMemory, TokenId, Triple, Unverified};
+use keep_spec::{Bytes, Digest, NoMemory, TokenId, Unverified, Verified};
 use std::alloc::Global;
 
 // Whether the one device takes no change.
@@ -60,7 +60,7 @@ fn open_put(
 }
 
 // The digest that a verdict lets a token ask for.
-fn by_verdict(verdict: Result<Triple, Unverified>) -> Result<Digest, Outcome>
+fn by_verdict(verdict: Result<Verified, Unverified>) -> Result<Digest, Outcome>
     ensures { result ≡ by_verdict verdict }
 {
     match verdict {

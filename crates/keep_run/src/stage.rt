@@ -133,7 +133,7 @@ fn finish_task<S: Store>(
     ensures events { IfOk result (λ _. stage.new.events ≤ stage.old.events + 2) }
     ensures few { IfOk result (λ _. length stage.new.names.entries ≤ length stage.old.names.entries + 2) }
 {
-    let state = set_name(&mut stage.names, name.copied(alloc)?, TaskState::Ended)?;
+    let state = set_name(&mut stage.names, name.duplicate(alloc)?, TaskState::Ended)?;
     let Some(task) = open_task_of(state) else {
         return Ok(false);
     };

@@ -321,7 +321,7 @@ fn ended_text(
     ensures { IfOk result (λ o. o ≡ ended_text (state_of_name name.now names.now.entries)) }
 {
     match names.get(name) {
-        Some(TaskState::Row { text }) => Ok(Some(text.copied(alloc)?)),
+        Some(TaskState::Row { text }) => Ok(Some(text.duplicate(alloc)?)),
         _ => Ok(None),
     }
 }

@@ -255,7 +255,7 @@ fn ended_locator(
     ensures { IfOk result (λ o. o ≡ ended_locator (state_of_name name.now names.now.entries)) }
 {
     match names.get(name) {
-        Some(TaskState::Located { locator }) => Ok(Some(locator.copied(alloc)?)),
+        Some(TaskState::Located { locator }) => Ok(Some(locator.duplicate(alloc)?)),
         _ => Ok(None),
     }
 }

@@ -15,7 +15,7 @@ use Rattle.keep_spec.specs.Locator.{is_locator, is_empty_block, is_hint, is_perm
 use Rattle.keep_spec.specs.Sign.{hmac, signed_text, signature_of, judged, verdict}
 use Rattle.keep_spec.specs.SignedText.{unsigned, permission_hint, signed}
 use Rattle.keep_spec.specs.declared.permission.Permission.{Permission}
-use Rattle.keep_spec.specs.declared.unverified.Triple.{Triple}
+use Rattle.keep_spec.specs.declared.unverified.Verified.{Verified}
 use Rattle.keep_spec.specs.declared.unverified.Unverified.{Unverified}
 use Rattle.keep_spec.specs.declared.unverified.Unverified.TheVariants.{Expired, Invalid}
 use Rattle.keep_locator.proofs.Joined.{joined, joined_whole, own_parts}
@@ -154,14 +154,14 @@ signed-digest text token secret expiry ttl whole some = ap bytes_of_digits (sign
 -- Verdicts.
 
 -- an expiry that hasn't passed leaves the signature to decide
-abbrev by_signature : Bool → List ℕ → ℕ → Result Triple Unverified
+abbrev by_signature : Bool → List ℕ → ℕ → Result Verified Unverified
 by_signature b hash expiry = if b then Ok (record { digest = hash; expiry = expiry }) else Err Invalid
 
 judged-in-time : (p : Permission) (hash token secret : List ℕ) (ttl reading : ℕ) → reading ≤ p.expiry * 1000000000
     → judged (Some p) hash token ttl secret reading ≡ by_signature (bytes_eq p.signature (signature_of hash token p.expiry ttl secret)) hash p.expiry
 judged-in-time p hash token secret ttl reading in_time =
     let same = bytes_eq p.signature (signature_of hash token p.expiry ttl secret) in
-    let wide : Unverified → Result Triple Unverified = Err in
+    let wide : Unverified → Result Verified Unverified = Err in
     ap (λ b. if b then wide (Expired p.expiry) else by_signature same hash p.expiry) (le-ltb (p.expiry * 1000000000) reading in_time)
 
 pub signed-valid : (text token secret : List ℕ) (expiry ttl reading : ℕ) → is_locator text ≡ true → is_empty_block text ≡ false → expiry < 2 ^ 32 → reading ≤ expiry * 1000000000

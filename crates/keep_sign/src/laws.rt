@@ -5,7 +5,7 @@ ghost use Rattle.keep_spec.specs.Locator.{is_locator, is_empty_block, is_permiss
 ghost use Rattle.keep_spec.specs.Sign.{hmac, signed_text, signature_of, verdict};
 ghost use Rattle.keep_spec.specs.SignedText.{unsigned, permission_hint, signed};
 ghost use Rattle.keep_spec.specs.declared.permission.Permission.{Permission};
-ghost use Rattle.keep_spec.specs.declared.unverified.Triple.{Triple};
+ghost use Rattle.keep_spec.specs.declared.unverified.Verified.{Verified};
 ghost use Rattle.keep_spec.specs.declared.unverified.Unverified.TheVariants.{Invalid};
 
 /// A locator that was signed is the same locator with one permission hint, the last, and is valid for the token, the ttl and the

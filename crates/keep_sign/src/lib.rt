@@ -10,7 +10,7 @@ mod text;
 mod verification;
 
 pub use keep_manifest::BadManifest;
-pub use keep_spec::{Permission, Triple, Unverified};
+pub use keep_spec::{Permission, Unverified, Verified};
 pub use laws::{
     other_signatures_are_invalid, signed_locators_are_valid, unsigned_locators_have_no_permission,
 };

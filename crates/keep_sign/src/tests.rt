@@ -1,6 +1,6 @@
 // Signatures, by the vectors of RFC 2202 and by values of openssl.
 use crate::{
-    BadManifest, Triple, Unverified, hmac, sign, sign_manifest, unsigned_manifest, verify,
+    BadManifest, Unverified, Verified, hmac, sign, sign_manifest, unsigned_manifest, verify,
 };
 use hex::encode_to_slice;
 use keep_locator::{Digest, Locator};
@@ -159,7 +159,7 @@ fn assert_verdict(rt: &impl Abort, text: &[u8], case: &Case) {
     match case.refusal {
         Some(refusal) => assert_eq!(rt; answer, Err(refusal), "{}", case.hints),
         None => {
-            let triple = Triple {
+            let triple = Verified {
                 digest: locator.digest(),
                 expiry: 1100,
             };

@@ -4,7 +4,7 @@ ghost use Rattle.keep_spec.specs.Sign.{verdict};
 
 use crate::signature::sign;
 use keep_locator::Locator;
-use keep_spec::{Triple, Unverified};
+use keep_spec::{Unverified, Verified};
 
 const NANOSECONDS: u64 = 1_000_000_000;
 
@@ -17,7 +17,7 @@ pub fn verify(
     ttl: u32,
     secret: &[u8],
     reading: u64,
-) -> Result<Triple, Unverified>
+) -> Result<Verified, Unverified>
     ensures { result ≡ verdict locator.now token.now ttl secret.now reading }
 {
     let Some(permission) = locator.permission() else {
@@ -31,5 +31,5 @@ pub fn verify(
     if permission.signature != sign(&digest, token, expiry, ttl, secret) {
         return Err(Unverified::Invalid);
     }
-    Ok(Triple { digest, expiry })
+    Ok(Verified { digest, expiry })
 }

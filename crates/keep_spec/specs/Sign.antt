@@ -6,7 +6,7 @@ use Rattle.sha1.specs.Sha1.{sha1}
 use Rattle.hex.specs.Hex.{encode_lower}
 use Rattle.keep_spec.specs.Locator.{digest, permission}
 use Rattle.keep_spec.specs.declared.permission.Permission.{Permission}
-use Rattle.keep_spec.specs.declared.unverified.Triple.{Triple}
+use Rattle.keep_spec.specs.declared.unverified.Verified.{Verified}
 use Rattle.keep_spec.specs.declared.unverified.Unverified.{Unverified}
 use Rattle.keep_spec.specs.declared.unverified.Unverified.TheVariants.{Missing, Expired, Invalid}
 
@@ -42,7 +42,7 @@ unfoldable pub signature_of : List ℕ → List ℕ → ℕ → ℕ → List ℕ
 signature_of digest token expiry ttl secret = encode_lower (hmac secret (signed_text (encode_lower digest) token expiry ttl))
 
 -- what a permission says of a digest at a reading in nanoseconds: no single hint, then an expiry that has passed, then another signature
-abbrev pub judged : Option Permission → List ℕ → List ℕ → ℕ → List ℕ → ℕ → Result Triple Unverified
+abbrev pub judged : Option Permission → List ℕ → List ℕ → ℕ → List ℕ → ℕ → Result Verified Unverified
 judged None digest token ttl secret reading = Err Missing
 judged (Some p) digest token ttl secret reading =
     if nat_lt (p.expiry * 1000000000) reading then Err (Expired p.expiry)
@@ -50,5 +50,5 @@ judged (Some p) digest token ttl secret reading =
     else Err Invalid
 
 -- what a locator's text says of itself at a reading
-abbrev pub verdict : List ℕ → List ℕ → ℕ → List ℕ → ℕ → Result Triple Unverified
+abbrev pub verdict : List ℕ → List ℕ → ℕ → List ℕ → ℕ → Result Verified Unverified
 verdict text token ttl secret reading = judged (permission text) (digest text) token ttl secret reading

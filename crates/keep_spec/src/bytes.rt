@@ -44,7 +44,7 @@ impl Bytes {
         self.items.len()
     }
 
-    pub fn copied(&self, alloc: Global) -> Result<Bytes, NoMemory>
+    pub fn duplicate(&self, alloc: Global) -> Result<Bytes, NoMemory>
         ensures { IfOk result (λ b. b ≡ self.now) }
     {
         Ok(Bytes {

@@ -28,5 +28,5 @@ pub use permission::Permission;
 pub use portable::{PORTABLE_MAX, Portable};
 pub use status::Status;
 pub use token::TokenId;
-pub use unverified::{Triple, Unverified};
+pub use unverified::{Unverified, Verified};
 pub use uuid::{BadUuid, Uuid};

@@ -3,7 +3,7 @@ use crate::Digest;
 
 /// What a valid signature was made for, beside the token: a digest, and an expiry in seconds since 1970.
 #[derive(Clone, Copy, Debug, PartialEq, Eq)]
-pub struct Triple {
+pub struct Verified {
     pub digest: Digest,
     pub expiry: u32,
 }

@@ -5,7 +5,7 @@ ghost use Rattle.keep_store.specs.Names.{IsCounted};
 
 use crate::tree_node::{Entry, NameTree};
 use crate::{Failed, Store, StoreError};
-use keep_event::{Held, Name, Sized, Stored};
+use keep_event::{Held, Metadata, Name, Stored};
 use keep_spec::NoMemory;
 use std::alloc::Global;
 
@@ -89,7 +89,7 @@ impl Store for MemoryStore {
         }
     }
 
-    fn stat(&mut self, name: &Name) -> Result<Option<Sized>, Failed> {
+    fn stat(&mut self, name: &Name) -> Result<Option<Metadata>, Failed> {
         if self.is_failing() {
             return Err(Failed);
         }
@@ -140,7 +140,7 @@ pub(crate) fn found(alloc: Global, stored: Option<&Stored>) -> Result<Option<Sto
     match stored {
         Some(stored) => Ok(Some(Stored {
             mtime: stored.mtime,
-            bytes: stored.bytes.copied(alloc)?,
+            bytes: stored.bytes.duplicate(alloc)?,
         })),
         None => Ok(None),
     }
@@ -161,11 +161,11 @@ pub(crate) fn listed(
     Ok(out)
 }
 
-pub(crate) fn sized(stored: Option<&Stored>) -> Option<Sized>
+pub(crate) fn sized(stored: Option<&Stored>) -> Option<Metadata>
     ensures { result ≡ option_map size_of (option_copied stored.entry) }
 {
     let stored = stored?;
-    Some(Sized {
+    Some(Metadata {
         mtime: stored.mtime,
         size: stored.bytes.len() as u64,
     })

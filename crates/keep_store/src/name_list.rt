@@ -8,7 +8,7 @@ ghost use Rattle.keep_store.specs.Digits.{is_within};
 ghost use Rattle.keep_store.specs.Names.{IsPlace, has, named};
 
 use crate::digits::digits_order;
-use keep_event::{Name, Sized};
+use keep_event::{Metadata, Name};
 use keep_spec::{Digest, NoMemory};
 use std::alloc::Global;
 use std::marker::Model;
@@ -23,7 +23,7 @@ pub trait Timed {
         ensures { self.new ≡ with_time mtime self.old };
 }
 
-impl Timed for Sized {
+impl Timed for Metadata {
     ghost with_time = { with_mtime };
 
     fn set_mtime(&mut self, mtime: u64) {

@@ -7,7 +7,7 @@ ghost use Rattle.keep_store.specs.Names.{has};
 ghost use Rattle.keep_event.specs.declared.names.Name.{Name as TheName};
 ghost use Rattle.keep_event.specs.declared.names.Stored.{Stored as TheStored};
 
-use keep_event::{Held, Name, Sized, Stored};
+use keep_event::{Held, Metadata, Name, Stored};
 
 /// A call to the outside failed.
 #[derive(Clone, Copy, Debug, PartialEq, Eq)]
@@ -54,7 +54,7 @@ pub trait Store {
         ensures cause { HasStoreCause (faults self.old) (faults self.new) result };
 
     /// The time and the size of what has the name.
-    fn stat(&mut self, name: &Name) -> Result<Option<Sized>, Failed>
+    fn stat(&mut self, name: &Name) -> Result<Option<Metadata>, Failed>
         ensures value { IfOk result (λ o. IfSome (held self.old) (λ es. o ≡ option_map size_of (find name.now es))) }
         ensures same { Stays (held self.old) (held self.new) }
         ensures note { Stays (noted self.old) (noted self.new) }

@@ -4,7 +4,7 @@ ghost use Rattle.std.specs.Prelude.{◌≡◌, Some, []};
 use crate::memory::{found, listed, sized};
 use crate::tree_node::{Entry, NameTree};
 use crate::{Failed, Store, StoreError};
-use keep_event::{Held, Name, Sized, Stored};
+use keep_event::{Held, Metadata, Name, Stored};
 use keep_spec::NoMemory;
 use std::alloc::Global;
 
@@ -59,7 +59,7 @@ impl Store for SureStore {
         }
     }
 
-    fn stat(&mut self, name: &Name) -> Result<Option<Sized>, Failed> {
+    fn stat(&mut self, name: &Name) -> Result<Option<Metadata>, Failed> {
         Ok(sized(self.names.get(name)))
     }
 

@@ -1,7 +1,7 @@
 // What no clause says: that calls succeed with ample memory, at each store, which calls fail, and that the tree is kept low.
 use crate::tree_node::{Entry, NameTree};
 use crate::{MemoryStore, NameList, NameMap, Store, StoreError, SureStore};
-use keep_event::{Name, Sized};
+use keep_event::{Metadata, Name};
 use keep_spec::Digest;
 use std::process::Abort;
 use std::test::Fail;
@@ -24,7 +24,7 @@ fn exercise<S: Store>(rt: &impl Abort, store: &mut S) -> Result<(), Fail> {
     let names = store.names_from(Some(low), 10)?;
     assert_eq!(rt; names.len(), 1);
     assert_eq!(rt; store.names_from(None, 1)?.len(), 1);
-    assert_eq!(rt; store.stat(&high)?, Some(Sized { mtime: 7, size: 4 }));
+    assert_eq!(rt; store.stat(&high)?, Some(Metadata { mtime: 7, size: 4 }));
     assert!(rt; store.touch(&high, 9)?);
     let copy = name_of(2, Some(40));
     assert!(rt; store.rename(&high, &copy, 9)?);
@@ -41,7 +41,7 @@ fn exercise<S: Store>(rt: &impl Abort, store: &mut S) -> Result<(), Fail> {
     assert!(rt; store.rename(&low, &name_of(3, None), 8)?);
     assert_eq!(rt;
         store.stat(&name_of(3, None))?,
-        Some(Sized { mtime: 8, size: 3 })
+        Some(Metadata { mtime: 8, size: 3 })
     );
     store.set_note(3)?;
     assert_eq!(rt; store.note()?, 3);
@@ -61,7 +61,7 @@ fn the_calls_that_are_to_fail_fail(rt: HostRuntime) -> Result<(), Fail> {
     let name = name_of(1, None);
     store.put(&name, 5, b"low")?;
     assert!(rt; matches!(store.put(&name, 6, b"other"), Err(StoreError::Failed)));
-    assert_eq!(rt; store.stat(&name)?, Some(Sized { mtime: 5, size: 3 }));
+    assert_eq!(rt; store.stat(&name)?, Some(Metadata { mtime: 5, size: 3 }));
     assert!(rt; store.touch(&name, 6).is_err());
     assert!(rt; store.touch(&name, 6)?);
     Ok(())

@@ -374,7 +374,7 @@ pub(crate) fn row_answer(
     requires { reading < 4 * 10 ^ 18 }
     ensures { IfOk result (λ a. a ≡ machine.row_answer rules.now reading row.now collection.now) }
 {
-    let text = row.made.text.copied(alloc)?;
+    let text = row.made.text.duplicate(alloc)?;
     Ok(TableAnswer::Row {
         number: row.collection,
         version: row.version,

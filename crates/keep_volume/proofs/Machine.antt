@@ -9,7 +9,7 @@ use Rattle.keep_event.specs.Store as store
 use Rattle.keep_event.specs.Store.{find, size_of}
 use Rattle.keep_event.specs.declared.names.Name.{Name}
 use Rattle.keep_event.specs.declared.names.Stored.{Stored}
-use Rattle.keep_event.specs.declared.names.Sized.{Sized}
+use Rattle.keep_event.specs.declared.names.Metadata.{Metadata}
 use Rattle.keep_event.specs.declared.device.DeviceRules.{DeviceRules}
 use Rattle.keep_event.specs.declared.device.DeviceAnswer.{DeviceAnswer}
 use Rattle.keep_event.specs.declared.device.DeviceAnswer.TheVariants.{ReadOnly, Absent, Touched, Written, Block, Corrupt, Collision, StoreFault, Gone, Skipped, Young, Trashed, Idle, Full, Stale, Cleared, Restarted, Emptied, Accepted, Present, NoTrash, Back, Page, Pull}
@@ -28,9 +28,9 @@ none-there None e = refl
 none-there (Some r) e = cc e
 
 -- something is remembered, so something is there, with that time
-pub some-there : (o : Option Stored) (s : Sized) → Some s ≡ option_map size_of o → (r : Stored) × (o ≡ Some r) × (s ≡ size_of r)
+pub some-there : (o : Option Stored) (s : Metadata) → Some s ≡ option_map size_of o → (r : Stored) × (o ≡ Some r) × (s ≡ size_of r)
 some-there None s e = cc e
-some-there (Some r) s e = (r, refl, ap (λ (o : Option Sized). unwrap_or o s) e)
+some-there (Some r) s e = (r, refl, ap (λ (o : Option Metadata). unwrap_or o s) e)
 
 -- what a store makes of a touch
 abbrev pub touch_at : Name → ℕ → List (Name × Stored) → List (Name × Stored)
@@ -58,10 +58,10 @@ module _ (rules : DeviceRules) (digest : List ℕ) (reading : ℕ) (s : State) w
   unfolding machine.touch
   touch-there w r e = rw w (ap (machine.touched digest reading s) e)
 
-  pub touch-set : (known : Sized) (n : Name) (m : ℕ) → rules.read_only ≡ false → n ≡ replica digest → m ≡ max known.mtime reading → Some known ≡ option_map size_of (find n s.held) → machine.touch rules digest reading s ≡ set Touched n m s
+  pub touch-set : (known : Metadata) (n : Name) (m : ℕ) → rules.read_only ≡ false → n ≡ replica digest → m ≡ max known.mtime reading → Some known ≡ option_map size_of (find n s.held) → machine.touch rules digest reading s ≡ set Touched n m s
   touch-set known n m w en em e =
       let there = some-there (replica_of digest s) known (e ∙ ap (λ v. option_map size_of (find v s.held)) en) in
-      touch-there w there.0 there.1 ∙ set-renewed Touched digest reading there.0 s n m en (em ∙ ap (λ (k : Sized). max k.mtime reading) there.2) there.1
+      touch-there w there.0 there.1 ∙ set-renewed Touched digest reading there.0 s n m en (em ∙ ap (λ (k : Metadata). max k.mtime reading) there.2) there.1
 
 module _ (rules : DeviceRules) (bytes : List ℕ) (reading : ℕ) (s : State) where
   pub compare-read-only : rules.read_only ≡ true → machine.compare_touch rules bytes reading s ≡ stays ReadOnly s
@@ -112,12 +112,12 @@ module _ (rules : DeviceRules) (item : TrashItem) (reading : ℕ) (s : State) wh
   item-gone w e = rw (w, e) refl
 
   -- where something is remembered
-  module _ (known : Sized) (n : Name) (w : rules.read_only ≡ false) (en : n ≡ replica item.digest) (e : Some known ≡ option_map size_of (find n s.held)) where
+  module _ (known : Metadata) (n : Name) (w : rules.read_only ≡ false) (en : n ≡ replica item.digest) (e : Some known ≡ option_map size_of (find n s.held)) where
     there : (r : Stored) × (replica_of item.digest s ≡ Some r) × (known ≡ size_of r)
     there = some-there (replica_of item.digest s) known (e ∙ ap (λ v. option_map size_of (find v s.held)) en)
 
     same-time : there.0.mtime ≡ known.mtime
-    same-time = ap (λ (k : Sized). k.mtime) (sym there.2)
+    same-time = ap (λ (k : Metadata). k.mtime) (sym there.2)
 
     to-there : machine.trash_item rules item reading s ≡ machine.trashed rules item reading s (Some there.0)
     unfolding machine.trash_item
@@ -239,21 +239,21 @@ module _ (rules : DeviceRules) (digest : List ℕ) (reading : ℕ) (s : State) w
   unfolding machine.untrash
   to-back w o e = ap (λ (b : Bool). if b then stays ReadOnly s else machine.brought_back digest reading s (replica_of digest s)) w ∙ ap (machine.brought_back digest reading s) e
 
-  pub untrash-present : rules.read_only ≡ false → (known : Sized) → Some known ≡ option_map size_of (replica_of digest s) → machine.untrash rules digest reading s ≡ stays (Present known.mtime) s
-  untrash-present w known e = let r = some-there (replica_of digest s) known e in to-back w (Some r.0) r.1 ∙ ap (λ (k : Sized). stays (Present k.mtime) s) (sym r.2)
+  pub untrash-present : rules.read_only ≡ false → (known : Metadata) → Some known ≡ option_map size_of (replica_of digest s) → machine.untrash rules digest reading s ≡ stays (Present known.mtime) s
+  untrash-present w known e = let r = some-there (replica_of digest s) known e in to-back w (Some r.0) r.1 ∙ ap (λ (k : Metadata). stays (Present k.mtime) s) (sym r.2)
 
   no-copy : (o : Option (Name × Stored)) → None ≡ option_map store.sized o → machine.back digest reading s o ≡ stays NoTrash s
   no-copy None e = refl
   no-copy (Some x) e = cc e
 
-  a-copy : (o : Option (Name × Stored)) (c : Name × Sized) → Some c ≡ option_map store.sized o → machine.back digest reading s o ≡ record { answer = Back (max c.1.mtime reading); state = with_held (store.rename c.0 (replica digest) (max c.1.mtime reading) s.held (find c.0 s.held)) s }
+  a-copy : (o : Option (Name × Stored)) (c : Name × Metadata) → Some c ≡ option_map store.sized o → machine.back digest reading s o ≡ record { answer = Back (max c.1.mtime reading); state = with_held (store.rename c.0 (replica digest) (max c.1.mtime reading) s.held (find c.0 s.held)) s }
   a-copy None c e = cc e
-  a-copy (Some x) c e = ap (λ (o : Option (Name × Sized)). let c = unwrap_or o c in record { answer = Back (max c.1.mtime reading); state = with_held (store.rename c.0 (replica digest) (max c.1.mtime reading) s.held (find c.0 s.held)) s }) (sym e)
+  a-copy (Some x) c e = ap (λ (o : Option (Name × Metadata)). let c = unwrap_or o c in record { answer = Back (max c.1.mtime reading); state = with_held (store.rename c.0 (replica digest) (max c.1.mtime reading) s.held (find c.0 s.held)) s }) (sym e)
 
   pub untrash-none : rules.read_only ≡ false → replica_of digest s ≡ None → None ≡ option_map store.sized (machine.last_copy digest s.held) → machine.untrash rules digest reading s ≡ stays NoTrash s
   untrash-none w n e = to-back w None n ∙ no-copy _ e
 
-  pub untrash-back : rules.read_only ≡ false → replica_of digest s ≡ None → (c : Name × Sized) → Some c ≡ option_map store.sized (machine.last_copy digest s.held) → machine.untrash rules digest reading s ≡ record { answer = Back (max c.1.mtime reading); state = with_held (store.rename c.0 (replica digest) (max c.1.mtime reading) s.held (find c.0 s.held)) s }
+  pub untrash-back : rules.read_only ≡ false → replica_of digest s ≡ None → (c : Name × Metadata) → Some c ≡ option_map store.sized (machine.last_copy digest s.held) → machine.untrash rules digest reading s ≡ record { answer = Back (max c.1.mtime reading); state = with_held (store.rename c.0 (replica digest) (max c.1.mtime reading) s.held (find c.0 s.held)) s }
   untrash-back w n c e = to-back w None n ∙ a-copy _ c e
 
 module _ (prefix : List ℕ) (round : ℕ) (s : State) where

@@ -3,7 +3,7 @@ use Rattle.std.proofs.Common.{◌≡◌, ℕ, zero, suc, ◌+◌, ◌<◌, List,
 use Rattle.std.proofs.lemmas.List.Sums.{sum_by-append}
 use Rattle.keep_event.specs.Store.{put, IsAscending, AreAscending}
 use Rattle.keep_event.specs.declared.names.Name.{Name}
-use Rattle.keep_event.specs.declared.names.Sized.{Sized}
+use Rattle.keep_event.specs.declared.names.Metadata.{Metadata}
 use Rattle.keep_event.specs.declared.names.Held.{Held}
 use Rattle.keep_store.proofs.Cuts.{put-next}
 use Rattle.keep_volume.specs.Index.{total, sized_held}
@@ -25,5 +25,5 @@ next-name names i h lt is s =
 
 pub next-total : (names : List Held) (i : ℕ) (h : Held) → i < length names → h ≡ get_or names i h → total (map sized_held (take (suc i) names)) ≡ total (map sized_held (take i names)) + h.size
 next-total names i h lt is =
-    ap total (sym (joined names i h lt is)) ∙ sum_by-append (λ (e : Name × Sized). e.1.size) (map sized_held (take i names)) (sized_held h ∷ [])
+    ap total (sym (joined names i h lt is)) ∙ sum_by-append (λ (e : Name × Metadata). e.1.size) (map sized_held (take i names)) (sized_held h ∷ [])
     ∙ ap (λ v. total (map sized_held (take i names)) + v) (zero-add h.size)

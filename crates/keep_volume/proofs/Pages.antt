@@ -13,7 +13,7 @@ use Rattle.std.proofs.lemmas.Cmp.{nat_cmp_total, tied_itself}
 use Rattle.hex.specs.Hex.{encode_with, encode_lower, lower_digits}
 use Rattle.keep_event.specs.Device as machine
 use Rattle.keep_event.specs.declared.names.Name.{Name}
-use Rattle.keep_event.specs.declared.names.Sized.{Sized}
+use Rattle.keep_event.specs.declared.names.Metadata.{Metadata}
 use Rattle.keep_store.specs.Digits.{nibbles, order_of, order_then, digit_value, is_within}
 
 -- both tests, one after the other
@@ -100,21 +100,21 @@ first-true : (b c : Bool) → (b && c) ≡ true → b ≡ true
 first-true true c h = refl
 first-true false c h = h
 
-pub no-copy : (digest : List ℕ) (es : List (Name × Sized)) → filter (λ e. bytes_eq e.0.digest digest) es ≡ [] → None ≡ last_or None (filter (λ e. machine.is_copy_of digest e.0) es)
-no-copy digest es h = ap (λ (v : List (Name × Sized)). last_or None (filter (λ e. is_some e.0.deadline) v)) (sym h) ∙ ap (last_or None) (filter-both (λ e. is_some e.0.deadline) (λ e. bytes_eq e.0.digest digest) es)
+pub no-copy : (digest : List ℕ) (es : List (Name × Metadata)) → filter (λ e. bytes_eq e.0.digest digest) es ≡ [] → None ≡ last_or None (filter (λ e. machine.is_copy_of digest e.0) es)
+no-copy digest es h = ap (λ (v : List (Name × Metadata)). last_or None (filter (λ e. is_some e.0.deadline) v)) (sym h) ∙ ap (last_or None) (filter-both (λ e. is_some e.0.deadline) (λ e. bytes_eq e.0.digest digest) es)
 
-digest-step : (digest : List ℕ) (b : Bool) (o : Option (Name × Sized)) (e : Name × Sized) (es : List (Name × Sized)) → (b ≡ true → e.0.digest ≡ digest) → IfSome o (λ e. e.0.digest ≡ digest)
-    → ((o : Option (Name × Sized)) → IfSome o (λ e. e.0.digest ≡ digest) → IfSome (last_or o es) (λ e. e.0.digest ≡ digest)) → IfSome (last_or o (cond b (e ∷ es) es)) (λ e. e.0.digest ≡ digest)
+digest-step : (digest : List ℕ) (b : Bool) (o : Option (Name × Metadata)) (e : Name × Metadata) (es : List (Name × Metadata)) → (b ≡ true → e.0.digest ≡ digest) → IfSome o (λ e. e.0.digest ≡ digest)
+    → ((o : Option (Name × Metadata)) → IfSome o (λ e. e.0.digest ≡ digest) → IfSome (last_or o es) (λ e. e.0.digest ≡ digest)) → IfSome (last_or o (cond b (e ∷ es) es)) (λ e. e.0.digest ≡ digest)
 digest-step digest true o e es own h rest = rest (Some e) (own refl)
 digest-step digest false o e es own h rest = rest o h
 
-last-from : (digest : List ℕ) (es : List (Name × Sized)) (o : Option (Name × Sized)) → IfSome o (λ e. e.0.digest ≡ digest) → IfSome (last_or o (filter (λ e. machine.is_copy_of digest e.0) es)) (λ e. e.0.digest ≡ digest)
+last-from : (digest : List ℕ) (es : List (Name × Metadata)) (o : Option (Name × Metadata)) → IfSome o (λ e. e.0.digest ≡ digest) → IfSome (last_or o (filter (λ e. machine.is_copy_of digest e.0) es)) (λ e. e.0.digest ≡ digest)
 last-from digest [] o h = h
 last-from digest (e ∷ es) o h = digest-step digest (machine.is_copy_of digest e.0) o e (filter (λ e. machine.is_copy_of digest e.0) es) (λ t. same-bytes e.0.digest digest (first-true (bytes_eq e.0.digest digest) (is_some e.0.deadline) t)) h (last-from digest es)
 
-pub last-digest : (digest : List ℕ) (es : List (Name × Sized)) (last : Option (Name × Sized)) → last ≡ last_or None (filter (λ e. machine.is_copy_of digest e.0) es) → IfSome last (λ e. e.0.digest ≡ digest)
-last-digest digest es last is = subst (λ (o : Option (Name × Sized)). IfSome o (λ e. e.0.digest ≡ digest)) (sym is) (last-from digest es None tt)
+pub last-digest : (digest : List ℕ) (es : List (Name × Metadata)) (last : Option (Name × Metadata)) → last ≡ last_or None (filter (λ e. machine.is_copy_of digest e.0) es) → IfSome last (λ e. e.0.digest ≡ digest)
+last-digest digest es last is = subst (λ (o : Option (Name × Metadata)). IfSome o (λ e. e.0.digest ≡ digest)) (sym is) (last-from digest es None tt)
 
-pub none-later : (p : Name × Sized → Bool) (o : Option (Name × Sized)) (es : List (Name × Sized)) → length es ≡ 0 → o ≡ last_or o (filter p es)
+pub none-later : (p : Name × Metadata → Bool) (o : Option (Name × Metadata)) (es : List (Name × Metadata)) → length es ≡ 0 → o ≡ last_or o (filter p es)
 none-later p o [] e = refl
 none-later p o (x ∷ es) e = absurd (omega arith)

@@ -11,17 +11,17 @@ use Rattle.keep_event.specs.Device.{State}
 use Rattle.keep_event.specs.Store.{Cut, cut, onto, name_cmp, find, put, without, change, move, sizes, sized, size_of, touch, rename, with_time, with_mtime, held_of}
 use Rattle.keep_event.specs.declared.names.Name.{Name}
 use Rattle.keep_event.specs.declared.names.Stored.{Stored}
-use Rattle.keep_event.specs.declared.names.Sized.{Sized}
+use Rattle.keep_event.specs.declared.names.Metadata.{Metadata}
 use Rattle.keep_event.specs.declared.names.Held.{Held}
 use Rattle.keep_event.specs.declared.lists.TrashItem.{TrashItem}
 use Rattle.keep_event.specs.declared.lists.PullItem.{PullItem}
 use Rattle.keep_volume.specs.Index.{Remembers, total, size_at, sized_held, due, sized_entry}
 use Rattle.keep_volume.proofs.Sums.{sum-cons}
 
-abbrev pub cut_sizes : Cut Stored → Cut Sized
+abbrev pub cut_sizes : Cut Stored → Cut Metadata
 cut_sizes c = record { front = sizes c.front; at = option_map sized c.at; back = sizes c.back }
 
-cut-sizes-step : (o : Ordering) (e : Name × Stored) (es : List (Name × Stored)) (c : Cut Stored) (d : Cut Sized) → d ≡ cut_sizes c →
+cut-sizes-step : (o : Ordering) (e : Name × Stored) (es : List (Name × Stored)) (c : Cut Stored) (d : Cut Metadata) → d ≡ cut_sizes c →
     match_ordering o (record { front = []; at = None; back = sized e ∷ sizes es }) (record { front = []; at = Some (sized e); back = sizes es }) (onto (sized e ∷ []) d)
     ≡ cut_sizes (match_ordering o (record { front = []; at = None; back = e ∷ es }) (record { front = []; at = Some e; back = es }) (onto (e ∷ []) c))
 cut-sizes-step Less e es c d h = refl
@@ -32,30 +32,30 @@ pub cut-sizes : (n : Name) (es : List (Name × Stored)) → cut n (sizes es) ≡
 cut-sizes n [] = refl
 cut-sizes n (e ∷ es) = cut-sizes-step (name_cmp n e.0) e es (cut n es) (cut n (sizes es)) (cut-sizes n es)
 
-find-sizes-at : (o : Option (Name × Stored)) → option_map (λ (e : Name × Sized). e.1) (option_map sized o) ≡ option_map size_of (option_map (λ (e : Name × Stored). e.1) o)
+find-sizes-at : (o : Option (Name × Stored)) → option_map (λ (e : Name × Metadata). e.1) (option_map sized o) ≡ option_map size_of (option_map (λ (e : Name × Stored). e.1) o)
 find-sizes-at None = refl
 find-sizes-at (Some e) = refl
 
 pub find-sizes : (n : Name) (es : List (Name × Stored)) → find n (sizes es) ≡ option_map size_of (find n es)
-find-sizes n es = ap (λ (c : Cut Sized). option_map (λ (e : Name × Sized). e.1) c.at) (cut-sizes n es) ∙ find-sizes-at (cut n es).at
+find-sizes n es = ap (λ (c : Cut Metadata). option_map (λ (e : Name × Metadata). e.1) c.at) (cut-sizes n es) ∙ find-sizes-at (cut n es).at
 
 sizes-append : (xs ys : List (Name × Stored)) → sizes (xs ++ ys) ≡ sizes xs ++ sizes ys
 sizes-append [] ys = refl
 sizes-append (x ∷ xs) ys = ap (λ v. sized x ∷ v) (sizes-append xs ys)
 
 pub put-sizes : (n : Name) (x : Stored) (es : List (Name × Stored)) → put n (size_of x) (sizes es) ≡ sizes (put n x es)
-put-sizes n x es = ap (λ (c : Cut Sized). c.front ++ (n, size_of x) ∷ c.back) (cut-sizes n es) ∙ sym (sizes-append (cut n es).front ((n, x) ∷ (cut n es).back))
+put-sizes n x es = ap (λ (c : Cut Metadata). c.front ++ (n, size_of x) ∷ c.back) (cut-sizes n es) ∙ sym (sizes-append (cut n es).front ((n, x) ∷ (cut n es).back))
 
 pub without-sizes : (n : Name) (es : List (Name × Stored)) → without n (sizes es) ≡ sizes (without n es)
-without-sizes n es = ap (λ (c : Cut Sized). c.front ++ c.back) (cut-sizes n es) ∙ sym (sizes-append (cut n es).front (cut n es).back)
+without-sizes n es = ap (λ (c : Cut Metadata). c.front ++ c.back) (cut-sizes n es) ∙ sym (sizes-append (cut n es).front (cut n es).back)
 
 -- ---- what is told and what is remembered
-pub known-told : (n : Name) (held : Option (List (Name × Stored))) (index : List (Name × Sized)) → Remembers held index → IfSome held (λ es. find n index ≡ option_map size_of (find n es))
+pub known-told : (n : Name) (held : Option (List (Name × Stored))) (index : List (Name × Metadata)) → Remembers held index → IfSome held (λ es. find n index ≡ option_map size_of (find n es))
 known-told n None index h = tt
 known-told n (Some es) index h = ap (find n) h ∙ find-sizes n es
 
 -- what the store makes of its list and what the device makes of its own
-pub both-change : (held held' : Option (List (Name × Stored))) (index index' : List (Name × Sized)) (h : List (Name × Stored) → List (Name × Stored)) (k : List (Name × Sized) → List (Name × Sized)) → Remembers held index
+pub both-change : (held held' : Option (List (Name × Stored))) (index index' : List (Name × Metadata)) (h : List (Name × Stored) → List (Name × Stored)) (k : List (Name × Metadata) → List (Name × Metadata)) → Remembers held index
     → held' ≡ option_map h held → index' ≡ k index → ((es : List (Name × Stored)) → k (sizes es) ≡ sizes (h es)) → Remembers held' index'
 both-change held held' index index' h k r e i same = subst (λ v. Remembers v index') (sym e) (subst (λ v. Remembers (option_map h held) v) (sym i) (told held r))
   where
@@ -79,17 +79,17 @@ rename-sizes from to m es = ap (move (with_mtime m) from to (sizes es)) (find-si
 
 used-sizes : (es : List (Name × Stored)) → machine.used es ≡ sum_by (λ e. e.1.size) (sizes es)
 used-sizes [] = refl
-used-sizes (e ∷ es) = sum-cons (λ (s : Stored). length s.bytes) e es ∙ ap (λ v. length e.1.bytes + v) (used-sizes es) ∙ sym (sum-cons (λ (s : Sized). s.size) (sized e) (sizes es))
+used-sizes (e ∷ es) = sum-cons (λ (s : Stored). length s.bytes) e es ∙ ap (λ v. length e.1.bytes + v) (used-sizes es) ∙ sym (sum-cons (λ (s : Metadata). s.size) (sized e) (sizes es))
 
-taken-at : (o : Option Stored) → machine.taken_by o ≡ unwrap_or (option_map (λ (s : Sized). s.size) (option_map size_of o)) 0
+taken-at : (o : Option Stored) → machine.taken_by o ≡ unwrap_or (option_map (λ (s : Metadata). s.size) (option_map size_of o)) 0
 taken-at None = refl
 taken-at (Some r) = refl
 
-pub counts-told : (n : Name) (held : Option (List (Name × Stored))) (index : List (Name × Sized)) → Remembers held index → IfSome held (λ es. (machine.used es ≡ total index) × (machine.taken_by (find n es) ≡ size_at n index))
+pub counts-told : (n : Name) (held : Option (List (Name × Stored))) (index : List (Name × Metadata)) → Remembers held index → IfSome held (λ es. (machine.used es ≡ total index) × (machine.taken_by (find n es) ≡ size_at n index))
 counts-told n None index r = tt
 counts-told n (Some es) index r = (
   used-sizes es ∙ ap total (sym r),
-  taken-at (find n es) ∙ ap (λ (o : Option Sized). unwrap_or (option_map (λ (s : Sized). s.size) o) 0) (sym (find-sizes n es) ∙ ap (find n) (sym r)),
+  taken-at (find n es) ∙ ap (λ (o : Option Metadata). unwrap_or (option_map (λ (s : Metadata). s.size) o) 0) (sym (find-sizes n es) ∙ ap (find n) (sym r)),
 )
 
 -- ---- what is remembered of the names that a store gives
@@ -105,18 +105,18 @@ opened-names None names limit lt h = tt
 opened-names (Some es) names limit lt h = ap (map sized_held) (h ∙ take-short limit (map held_of es) (subst (λ v. length v < limit) h lt)) ∙ sizes-held es
 
 -- ---- the first that is due
-first-step : (reading : ℕ) (b : Bool) (e : Name × Stored) (es : List (Name × Stored)) → option_map (λ (e : Name × Sized). e.0) (list_find (due reading) (sizes es)) ≡ option_map (λ (e : Name × Stored). e.0) (list_find (machine.is_due reading) es)
-    → option_map (λ (e : Name × Sized). e.0) (if b then Some (sized e) else list_find (due reading) (sizes es)) ≡ option_map (λ (e : Name × Stored). e.0) (if b then Some e else list_find (machine.is_due reading) es)
+first-step : (reading : ℕ) (b : Bool) (e : Name × Stored) (es : List (Name × Stored)) → option_map (λ (e : Name × Metadata). e.0) (list_find (due reading) (sizes es)) ≡ option_map (λ (e : Name × Stored). e.0) (list_find (machine.is_due reading) es)
+    → option_map (λ (e : Name × Metadata). e.0) (if b then Some (sized e) else list_find (due reading) (sizes es)) ≡ option_map (λ (e : Name × Stored). e.0) (if b then Some e else list_find (machine.is_due reading) es)
 first-step reading true e es h = refl
 first-step reading false e es h = h
 
-first-sizes : (reading : ℕ) (es : List (Name × Stored)) → option_map (λ (e : Name × Sized). e.0) (list_find (due reading) (sizes es)) ≡ option_map (λ (e : Name × Stored). e.0) (list_find (machine.is_due reading) es)
+first-sizes : (reading : ℕ) (es : List (Name × Stored)) → option_map (λ (e : Name × Metadata). e.0) (list_find (due reading) (sizes es)) ≡ option_map (λ (e : Name × Stored). e.0) (list_find (machine.is_due reading) es)
 first-sizes reading [] = refl
 first-sizes reading (e ∷ es) = first-step reading (machine.is_due reading e) e es (first-sizes reading es)
 
-pub first-told : (reading : ℕ) (held : Option (List (Name × Stored))) (index : List (Name × Sized)) → IfSome held (λ es. index ≡ sizes es) → IfSome held (λ es. option_map (λ (e : Name × Sized). e.0) (list_find (due reading) index) ≡ option_map (λ (e : Name × Stored). e.0) (list_find (machine.is_due reading) es))
+pub first-told : (reading : ℕ) (held : Option (List (Name × Stored))) (index : List (Name × Metadata)) → IfSome held (λ es. index ≡ sizes es) → IfSome held (λ es. option_map (λ (e : Name × Metadata). e.0) (list_find (due reading) index) ≡ option_map (λ (e : Name × Stored). e.0) (list_find (machine.is_due reading) es))
 first-told reading None index h = tt
-first-told reading (Some es) index h = ap (λ v. option_map (λ (e : Name × Sized). e.0) (list_find (due reading) v)) h ∙ first-sizes reading es
+first-told reading (Some es) index h = ap (λ v. option_map (λ (e : Name × Metadata). e.0) (list_find (due reading) v)) h ∙ first-sizes reading es
 
 -- ---- the last copy
 last-step : (digest : List ℕ) (b : Bool) (o : Option (Name × Stored)) (e : Name × Stored) (es : List (Name × Stored))
@@ -129,12 +129,12 @@ last-sizes : (digest : List ℕ) (es : List (Name × Stored)) (o : Option (Name 
 last-sizes digest [] o = refl
 last-sizes digest (e ∷ es) o = last-step digest (machine.is_copy_of digest e.0) o e es (last-sizes digest es)
 
-pub last-told : (digest : List ℕ) (held : Option (List (Name × Stored))) (index : List (Name × Sized)) → IfSome held (λ es. index ≡ sizes es) → IfSome held (λ es. last_or None (filter (λ e. machine.is_copy_of digest e.0) index) ≡ option_map sized (machine.last_copy digest es))
+pub last-told : (digest : List ℕ) (held : Option (List (Name × Stored))) (index : List (Name × Metadata)) → IfSome held (λ es. index ≡ sizes es) → IfSome held (λ es. last_or None (filter (λ e. machine.is_copy_of digest e.0) index) ≡ option_map sized (machine.last_copy digest es))
 last-told digest None index h = tt
 last-told digest (Some es) index h = ap (λ v. last_or None (filter (λ e. machine.is_copy_of digest e.0) v)) h ∙ last-sizes digest es None
 
 -- ---- a page
-page-step : (prefix : List ℕ) (b : Bool) (e : Name × Stored) (xs : List (Name × Sized)) (ys : List (Name × Stored)) → map sized_entry xs ≡ map machine.entry_of ys
+page-step : (prefix : List ℕ) (b : Bool) (e : Name × Stored) (xs : List (Name × Metadata)) (ys : List (Name × Stored)) → map sized_entry xs ≡ map machine.entry_of ys
     → map sized_entry (cond b (sized e ∷ xs) xs) ≡ map machine.entry_of (cond b (e ∷ ys) ys)
 page-step prefix true e xs ys h = ap (λ v. machine.entry_of e ∷ v) h
 page-step prefix false e xs ys h = h
@@ -143,7 +143,7 @@ page-sizes : (prefix : List ℕ) (es : List (Name × Stored)) → map sized_entr
 page-sizes prefix [] = refl
 page-sizes prefix (e ∷ es) = page-step prefix (machine.is_paged prefix e.0) e _ _ (page-sizes prefix es)
 
-pub page-told : (prefix : List ℕ) (held : Option (List (Name × Stored))) (index : List (Name × Sized)) → IfSome held (λ es. index ≡ sizes es) → IfSome held (λ es. map sized_entry (filter (λ e. machine.is_paged prefix e.0) index) ≡ map machine.entry_of (filter (λ e. machine.is_paged prefix e.0) es))
+pub page-told : (prefix : List ℕ) (held : Option (List (Name × Stored))) (index : List (Name × Metadata)) → IfSome held (λ es. index ≡ sizes es) → IfSome held (λ es. map sized_entry (filter (λ e. machine.is_paged prefix e.0) index) ≡ map machine.entry_of (filter (λ e. machine.is_paged prefix e.0) es))
 page-told prefix None index h = tt
 page-told prefix (Some es) index h = ap (λ v. map sized_entry (filter (λ e. machine.is_paged prefix e.0) v)) h ∙ page-sizes prefix es
 
@@ -152,7 +152,7 @@ no-sizes : (es : List (Name × Stored)) → sizes es ≡ [] → es ≡ []
 no-sizes [] e = refl
 no-sizes (e ∷ es) f = cc f
 
-pub empty-told : (held : Option (List (Name × Stored))) (index : List (Name × Sized)) (round : ℕ) (trash : List TrashItem) (pull : List PullItem) (b : Bool) → IfSome held (λ es. index ≡ sizes es)
+pub empty-told : (held : Option (List (Name × Stored))) (index : List (Name × Metadata)) (round : ℕ) (trash : List TrashItem) (pull : List PullItem) (b : Bool) → IfSome held (λ es. index ≡ sizes es)
     → (b ≡ true → (round ≡ 0) × (index ≡ []) × (trash ≡ []) × (pull ≡ [])) → (index ≡ [] → round ≡ 0 → trash ≡ [] → pull ≡ [] → b ≡ true)
     → IfSome (option_map (λ (es : List (Name × Stored)). let s : State = record { held = es; round = round; trash = trash; pull = pull } in s) held) (λ s. (b ≡ true) ↔ (s ≡ machine.initial))
 empty-told None index round trash pull b h f t = tt

@@ -7,7 +7,7 @@ use Rattle.std.specs.declared.cmp.Ordering.TheVariants.{Less, Equal, Greater}
 use Rattle.std.specs.Ordering.{match_ordering}
 use Rattle.keep_event.specs.Store.{Cut, cut, onto, name_cmp, find, put, without, change, with_mtime}
 use Rattle.keep_event.specs.declared.names.Name.{Name}
-use Rattle.keep_event.specs.declared.names.Sized.{Sized}
+use Rattle.keep_event.specs.declared.names.Metadata.{Metadata}
 use Rattle.keep_volume.specs.Index.{total, size_at}
 
 -- a cut list, joined again
@@ -45,25 +45,25 @@ module _ {X : Type 0} (f : X → ℕ) (n : Name) (es : List (Name × X)) where
       let p : sum_by (λ e. f e.1) (without n es) ≡ sum_by (λ e. f e.1) (cut n es).front + sum_by (λ e. f e.1) (cut n es).back = sum_by-append (λ e. f e.1) (cut n es).front _ in
       omega (arith, p, sum-parts)
 
-pub total-put : (n : Name) (x : Sized) (index : List (Name × Sized)) → total (put n x index) + size_at n index ≡ total index + x.size
-total-put n x index = sum-put (λ (s : Sized). s.size) n index x
+pub total-put : (n : Name) (x : Metadata) (index : List (Name × Metadata)) → total (put n x index) + size_at n index ≡ total index + x.size
+total-put n x index = sum-put (λ (s : Metadata). s.size) n index x
 
-pub total-without : (n : Name) (index : List (Name × Sized)) → total (without n index) + size_at n index ≡ total index
-total-without n index = sum-without (λ (s : Sized). s.size) n index
+pub total-without : (n : Name) (index : List (Name × Metadata)) → total (without n index) + size_at n index ≡ total index
+total-without n index = sum-without (λ (s : Metadata). s.size) n index
 
 -- another time takes no other bytes
-change-sum : (n : Name) (m : ℕ) (index : List (Name × Sized)) (o : Option Sized) → find n index ≡ o → total (change (with_mtime m) n index o) ≡ total index
+change-sum : (n : Name) (m : ℕ) (index : List (Name × Metadata)) (o : Option Metadata) → find n index ≡ o → total (change (with_mtime m) n index o) ≡ total index
 change-sum n m index None h = refl
 change-sum n m index (Some s) h =
     let p = total-put n (with_mtime m s) index in
-    let q : size_at n index ≡ s.size = ap (λ (o : Option Sized). unwrap_or (option_map (λ (s : Sized). s.size) o) 0) h in
+    let q : size_at n index ≡ s.size = ap (λ (o : Option Metadata). unwrap_or (option_map (λ (s : Metadata). s.size) o) 0) h in
     omega (arith, p, q)
 
-pub total-change : (n : Name) (m : ℕ) (index : List (Name × Sized)) → total (change (with_mtime m) n index (find n index)) ≡ total index
+pub total-change : (n : Name) (m : ℕ) (index : List (Name × Metadata)) → total (change (with_mtime m) n index (find n index)) ≡ total index
 total-change n m index = change-sum n m index (find n index) refl
 
-pub size-le : (n : Name) (index : List (Name × Sized)) → size_at n index ≤ total index
+pub size-le : (n : Name) (index : List (Name × Metadata)) → size_at n index ≤ total index
 size-le n index = omega (arith, total-without n index)
 
-pub size-found : (n : Name) (index : List (Name × Sized)) (s : Sized) → find n index ≡ Some s → size_at n index ≡ s.size
-size-found n index s h = ap (λ (o : Option Sized). unwrap_or (option_map (λ (s : Sized). s.size) o) 0) h
+pub size-found : (n : Name) (index : List (Name × Metadata)) (s : Metadata) → find n index ≡ Some s → size_at n index ≡ s.size
+size-found n index s h = ap (λ (o : Option Metadata). unwrap_or (option_map (λ (s : Metadata). s.size) o) 0) h

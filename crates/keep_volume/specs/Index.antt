@@ -5,31 +5,31 @@ use Rattle.std.specs.List.{AllByRecursion}
 use Rattle.keep_event.specs.Store.{find, name_cmp, sizes}
 use Rattle.keep_event.specs.Device.{is_due_at}
 use Rattle.keep_event.specs.declared.names.Name.{Name}
-use Rattle.keep_event.specs.declared.names.Sized.{Sized}
+use Rattle.keep_event.specs.declared.names.Metadata.{Metadata}
 use Rattle.keep_event.specs.declared.names.Stored.{Stored}
 use Rattle.keep_event.specs.declared.names.Held.{Held}
 use Rattle.keep_event.specs.declared.lists.Entry.{Entry}
 
 -- what is remembered is what the store tells
-abbrev pub Remembers : Option (List (Name × Stored)) → List (Name × Sized) → Type 0
+abbrev pub Remembers : Option (List (Name × Stored)) → List (Name × Metadata) → Type 0
 Remembers held index = IfSome held (λ es. index ≡ sizes es)
 
 -- the bytes of all names
-abbrev pub total : List (Name × Sized) → ℕ
+abbrev pub total : List (Name × Metadata) → ℕ
 total index = sum_by (λ e. e.1.size) index
 
 -- the bytes that a name takes
-abbrev pub size_at : Name → List (Name × Sized) → ℕ
-size_at n index = unwrap_or (option_map (λ (s : Sized). s.size) (find n index)) 0
+abbrev pub size_at : Name → List (Name × Metadata) → ℕ
+size_at n index = unwrap_or (option_map (λ (s : Metadata). s.size) (find n index)) 0
 
-abbrev pub sized_held : Held → Name × Sized
+abbrev pub sized_held : Held → Name × Metadata
 sized_held h = (h.name, record { mtime = h.mtime; size = h.size })
 
-abbrev pub sized_entry : Name × Sized → Entry
+abbrev pub sized_entry : Name × Metadata → Entry
 sized_entry e = record { digest = e.0.digest; size = e.1.size; mtime = e.1.mtime }
 
 -- whether the deadline of a name has passed
-abbrev pub due : ℕ → Name × Sized → Bool
+abbrev pub due : ℕ → Name × Metadata → Bool
 due reading e = is_due_at reading e.0.deadline
 
 -- whether a name lies ahead of those that were looked at
@@ -41,7 +41,7 @@ abbrev pub Waits : Option Name → ℕ → Name → Type 0
 Waits up_to earliest n = (is_ahead up_to n ≡ true) ⊎ (is_due_at earliest n.deadline ≡ false)
 
 -- no copy up to a name has a deadline below the earliest
-abbrev pub ArePassed : Option Name → ℕ → List (Name × Sized) → Type 0
+abbrev pub ArePassed : Option Name → ℕ → List (Name × Metadata) → Type 0
 ArePassed up_to earliest index = AllByRecursion (Waits up_to earliest) (map (λ e. e.0) index)
 
 abbrev pub earlier_of : ℕ → Option ℕ → ℕ

@@ -3,7 +3,7 @@ ghost use Rattle.std.specs.Prelude.{◌≡◌};
 
 use crate::Volume;
 use crate::tests::{Ask, LATER, OLD, RULES, T, memory, query_of};
-use keep_event::{Held, Name, Sized, Stored};
+use keep_event::{Held, Metadata, Name, Stored};
 use keep_store::{Failed, MemoryStore, Store, StoreError};
 use std::alloc::Global;
 use std::process::Abort;
@@ -68,7 +68,7 @@ impl Store for Counted {
         self.inner.names_from(after, limit)
     }
 
-    fn stat(&mut self, name: &Name) -> Result<Option<Sized>, Failed> {
+    fn stat(&mut self, name: &Name) -> Result<Option<Metadata>, Failed> {
         self.read(false);
         self.inner.stat(name)
     }

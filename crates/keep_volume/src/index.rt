@@ -10,7 +10,7 @@ ghost use Rattle.keep_store.specs.Buckets.{room_for};
 ghost use Rattle.keep_store.specs.Names.{has, named};
 
 use hex::encode_to_slice;
-use keep_event::{Entry, Held, Name, Sized};
+use keep_event::{Entry, Held, Metadata, Name};
 use keep_spec::{Digest, NoMemory};
 use keep_store::{NameList, NameMap};
 use std::alloc::Global;
@@ -33,7 +33,7 @@ struct Looked {
 /// The names of a store with their times and sizes.
 #[derive(Drop)]
 pub(crate) struct Index {
-    names: NameMap<Sized>,
+    names: NameMap<Metadata>,
     used: u128,
     passed: Passed,
 }
@@ -41,10 +41,10 @@ pub(crate) struct Index {
 impl Model for Index {
     ghost use Rattle.std.specs.Prelude.{◌≡◌, ◌<◌, ◌^◌};
     ghost use Rattle.keep_store.specs.Buckets.{Bucketed};
-    ghost use Rattle.keep_event.specs.declared.names.Sized.{Sized as TheSized};
+    ghost use Rattle.keep_event.specs.declared.names.Metadata.{Metadata as TheMetadata};
     ghost use Rattle.keep_volume.specs.Index.{total, ArePassed};
 
-    ghost Value = { Bucketed TheSized };
+    ghost Value = { Bucketed TheMetadata };
 
     ghost view = { λ i. i.names };
 
@@ -81,7 +81,7 @@ impl Index {
         self.used
     }
 
-    pub(crate) fn get(&self, name: &Name) -> Option<Sized>
+    pub(crate) fn get(&self, name: &Name) -> Option<Metadata>
         ensures { result ≡ find name.now self.now.entries }
     {
         self.names.get(name).copied()
@@ -125,7 +125,7 @@ impl Index {
         };
         self.remove(from);
         let size = sized.size;
-        self.put_in_room(to, Sized { mtime, size });
+        self.put_in_room(to, Metadata { mtime, size });
     }
 
     pub(crate) fn reserve_for(&mut self, name: &Name) -> Result<(), NoMemory>
@@ -135,7 +135,7 @@ impl Index {
         self.names.reserve_for(name)
     }
 
-    pub(crate) fn put_in_room(&mut self, name: &Name, sized: Sized)
+    pub(crate) fn put_in_room(&mut self, name: &Name, sized: Metadata)
         requires room { 0 < room_for name.now self.old.rooms }
         requires fits { total self.old.entries - size_at name.now self.old.entries + sized.size < 2 ^ 127 }
         ensures { self.new.entries ≡ put name.now sized self.old.entries }
@@ -163,7 +163,7 @@ impl Index {
     }
 
     /// The trashed copy of a digest with the greatest deadline.
-    pub(crate) fn last_copy(&self, digest: &Digest) -> Option<(Name, Sized)>
+    pub(crate) fn last_copy(&self, digest: &Digest) -> Option<(Name, Metadata)>
         ensures value { result ≡ last_or None (filter (λ e. machine.is_copy_of digest.now e.0) self.now.entries) }
         ensures digest { IfSome result (λ e. e.0.digest ≡ digest.now) }
     {
@@ -194,7 +194,7 @@ impl Index {
 // Adds the replicas whose digits begin with the prefix.
 fn page_more(
     entries: &mut Vec<Entry>,
-    names: &NameList<Sized>,
+    names: &NameList<Metadata>,
     prefix: &[u8],
 ) -> Result<(), NoMemory>
     ensures { OnOk result (entries.new.items ≡ entries.old.items ++ map sized_entry (filter (λ e. machine.is_paged prefix.now e.0) names.now.entries)) }
@@ -215,7 +215,7 @@ fn page_more(
 }
 
 // Looks for the first copy whose deadline has passed, from where an earlier look came to.
-fn look_through(names: &NameMap<Sized>, passed: Passed, reading: u64) -> Looked
+fn look_through(names: &NameMap<Metadata>, passed: Passed, reading: u64) -> Looked
     requires waiting { reading ≤ passed.earliest }
     requires passed { ArePassed passed.up_to passed.earliest names.now.entries }
     ensures found { result.found ≡ option_map (λ e. e.0) (list_find (due reading) names.now.entries) }
@@ -237,7 +237,7 @@ fn look_through(names: &NameMap<Sized>, passed: Passed, reading: u64) -> Looked
 }
 
 // The same in one bucket, in the names above one.
-fn look_in(names: &NameList<Sized>, after: Option<&Name>, passed: Passed, reading: u64) -> Looked
+fn look_in(names: &NameList<Metadata>, after: Option<&Name>, passed: Passed, reading: u64) -> Looked
     ensures { result ≡ look reading passed (above (named after.entry) names.now.entries) }
 {
     let mut came = passed;
@@ -272,7 +272,7 @@ fn earlier(earliest: u64, name: &Name) -> u64
 }
 
 // The names with their times and sizes, and the bytes of all.
-fn sized_names(alloc: Global, names: &[Held]) -> Result<(NameMap<Sized>, u128), NoMemory>
+fn sized_names(alloc: Global, names: &[Held]) -> Result<(NameMap<Metadata>, u128), NoMemory>
     requires { AreAscending (map (λ h. h.name) names.now) }
     ensures entries { IfOk result (λ r. r.0.entries ≡ map sized_held names.now) }
     ensures used { IfOk result (λ r. r.1 ≡ total r.0.entries) }
@@ -281,7 +281,7 @@ fn sized_names(alloc: Global, names: &[Held]) -> Result<(NameMap<Sized>, u128), 
     let mut index = NameMap::new(alloc);
     let mut used = 0u128;
     for held in names {
-        let sized = Sized {
+        let sized = Metadata {
             mtime: held.mtime,
             size: held.size,
         };

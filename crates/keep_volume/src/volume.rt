@@ -10,7 +10,8 @@ ghost use Rattle.keep_store.specs.Causes.{HasStoreCause};
 
 use crate::index::Index;
 use keep_event::{
-    Block, DeviceAnswer, DeviceQuery, DeviceRules, Lists, Name, PullItem, Sized, Stored, TrashItem,
+    Block, DeviceAnswer, DeviceQuery, DeviceRules, Lists, Metadata, Name, PullItem, Stored,
+    TrashItem,
 };
 use keep_spec::{Digest, Items, NoMemory, TokenId};
 use keep_store::{Failed, Store, StoreError};
@@ -452,7 +453,7 @@ impl<S: Store> Volume<S> {
     }
 
     // What is remembered of a name.
-    fn known(&self, name: &Name) -> Option<Sized>
+    fn known(&self, name: &Name) -> Option<Metadata>
         ensures { IfSome self.now.held (λ es. result ≡ option_map size_of (find name.now es)) }
     {
         self.index.get(name)
@@ -467,7 +468,7 @@ impl<S: Store> Volume<S> {
     }
 
     // The trashed copy of a digest with the greatest deadline.
-    fn last_copy(&self, digest: &Digest) -> Option<(Name, Sized)>
+    fn last_copy(&self, digest: &Digest) -> Option<(Name, Metadata)>
         ensures told { IfSome self.now.held (λ es. result ≡ option_map sized (machine.last_copy digest.now es)) }
         ensures digest { IfSome result (λ e. e.0.digest ≡ digest.now) }
     {
@@ -494,7 +495,7 @@ impl<S: Store> Volume<S> {
             Err(StoreError::Failed) => return Ok(DeviceAnswer::StoreFault),
             Err(StoreError::NoMemory) => return Err(NoMemory),
         }
-        self.index.put_in_room(&name, Sized { mtime, size });
+        self.index.put_in_room(&name, Metadata { mtime, size });
         Ok(DeviceAnswer::Written { mtime })
     }
 
@@ -567,7 +568,7 @@ impl<S: Store> Volume<S> {
         ensures line { IsLine (machine.accept round lists.now) self.old self.new result }
         ensures no_fault { result ≡ Ok DeviceAnswer.StoreFault → ⊥ }
     {
-        let copy = lists.copied(self.alloc)?;
+        let copy = lists.duplicate(self.alloc)?;
         self.accept(reading, round, copy)
     }
 }

@@ -1,6 +1,6 @@
 use Rattle.std.proofs.Common.{◌≡◌, ◌∙◌, ap, arith, sym}
 use Rattle.keep_store.specs.Buckets.{Bucketed}
-use Rattle.keep_event.specs.declared.names.Sized.{Sized}
+use Rattle.keep_event.specs.declared.names.Metadata.{Metadata}
 use Rattle.keep_event.specs.Store.{without}
 use Rattle.keep_store.proofs.Order.{all-without}
 use Rattle.keep_volume.specs.Index.{total, size_at, Waits}
@@ -11,7 +11,7 @@ pub invariant_of-self : goal.invariant_of-self
 invariant_of-self c =
     let n = c.args.name.now in
     let es = c.self.inside.names.entries in
-    let freed : c.size_at-freed.result ≡ size_at n es = c.size_at-freed.ensures.value ∙ ap (λ (v : Bucketed Sized). size_at n v.entries) (sym c.self.view_is) in
+    let freed : c.size_at-freed.result ≡ size_at n es = c.size_at-freed.ensures.value ∙ ap (λ (v : Bucketed Metadata). size_at n v.entries) (sym c.self.view_is) in
     rw c.remove.ensures.after (record {
       sum = omega (arith, freed, total-without n es, c.self.invariant.sum);
       small = omega (arith, c.self.invariant.small);
@@ -23,5 +23,5 @@ returns-clause-fits c =
     let n = c.args.name.now in
     let es = c.self.inside.names.entries in
     let left : total c.remove.new.self.entries ≡ total (without n es) = ap total c.remove.ensures.after in
-    let kept : size_at n es ≡ size_at n c.args.self.now.entries = ap (λ (v : Bucketed Sized). size_at n v.entries) c.self.view_is in
+    let kept : size_at n es ≡ size_at n c.args.self.now.entries = ap (λ (v : Bucketed Metadata). size_at n v.entries) c.self.view_is in
     omega (arith, left, kept, total-without n es, c.self.invariant.sum, c.self.invariant.small)
