@@ -5,7 +5,9 @@ pub mod Json
 pub mod Lines
 pub mod Locator
 pub mod Manifest
+pub mod Members
 pub mod Names
+pub mod Order
 pub mod Portable
 pub mod Refusals
 pub mod Results
