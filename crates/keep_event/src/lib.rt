@@ -1,4 +1,4 @@
-//! Blocks, what devices are asked and answer, the events of a run, and in `specs/` what a store holds and the device machine.
+//! Blocks, what devices and the table are asked and answer, the events of a run, and in `specs/` what a store holds and the machines of a device and of the table.
 #![tactic(auto)]
 
 mod block;
@@ -7,7 +7,6 @@ mod event;
 mod lists;
 mod names;
 mod table;
-mod task;
 #[cfg(test)]
 mod tests;
 
@@ -20,4 +19,3 @@ pub use table::{
     Collection, NewRecord, Record, SaveRequest, ScanRow, Standing, TableAnswer, TableQuery,
     TableRules,
 };
-pub use task::{Command, Opening, Outcome, Task, TaskState};

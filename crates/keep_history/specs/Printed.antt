@@ -13,8 +13,8 @@ use Rattle.keep_event.specs.declared.table.TableAnswer.{TableAnswer}
 use Rattle.keep_event.specs.declared.table.TableAnswer.TheVariants as TA
 use Rattle.keep_event.specs.declared.device.DeviceAnswer.{DeviceAnswer}
 use Rattle.keep_event.specs.declared.device.DeviceAnswer.TheVariants as A
-use Rattle.keep_event.specs.declared.task.Outcome.{Outcome}
-use Rattle.keep_event.specs.declared.task.Outcome.TheVariants as O
+use Rattle.keep_history.specs.declared.task.Outcome.{Outcome}
+use Rattle.keep_history.specs.declared.task.Outcome.TheVariants as O
 
 -- a field, behind the space that separates it
 abbrev pub number_field : ℕ → List ℕ

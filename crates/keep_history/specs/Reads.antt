@@ -5,14 +5,14 @@ use Rattle.keep_spec.specs.Config.{Configuration}
 use Rattle.keep_spec.specs.Lines.{cut, text_of}
 use Rattle.keep_spec.specs.declared.config.Field.{Field}
 use Rattle.keep_event.specs.Device.{State}
-use Rattle.keep_event.specs.declared.task.Command.{Command}
-use Rattle.keep_event.specs.declared.task.Command.TheVariants as C
-use Rattle.keep_event.specs.declared.task.Opening.TheVariants as Open
-use Rattle.keep_event.specs.declared.task.Outcome.{Outcome}
-use Rattle.keep_event.specs.declared.task.Outcome.TheVariants as O
-use Rattle.keep_event.specs.declared.task.Task.TheVariants as T
-use Rattle.keep_event.specs.declared.task.TaskState.{TaskState}
-use Rattle.keep_event.specs.declared.task.TaskState.TheVariants as S
+use Rattle.keep_history.specs.declared.task.Command.{Command}
+use Rattle.keep_history.specs.declared.task.Command.TheVariants as C
+use Rattle.keep_history.specs.declared.task.Opening.TheVariants as Open
+use Rattle.keep_history.specs.declared.task.Outcome.{Outcome}
+use Rattle.keep_history.specs.declared.task.Outcome.TheVariants as O
+use Rattle.keep_history.specs.declared.task.Task.TheVariants as T
+use Rattle.keep_history.specs.declared.task.TaskState.{TaskState}
+use Rattle.keep_history.specs.declared.task.TaskState.TheVariants as S
 use Rattle.keep_history.specs.Effects.{Scene, asked_at, effect_of_line}
 use Rattle.keep_history.specs.Names.{state_of_name}
 use Rattle.keep_history.specs.Run.{config_for, is_empty, at_start}

@@ -11,12 +11,12 @@ use Rattle.serde_json.specs.Find.{get, as_str, as_array, as_number, as_u64}
 use Rattle.keep_spec.specs.Digest.{is_digest, bytes_of_digits}
 use Rattle.keep_spec.specs.Json.{value_of, text_at, number_at, truth_or, has_members}
 use Rattle.keep_event.specs.declared.table.SaveRequest.{SaveRequest}
-use Rattle.keep_event.specs.declared.task.Command.{Command}
-use Rattle.keep_event.specs.declared.task.Command.TheVariants as C
-use Rattle.keep_event.specs.declared.task.Opening.{Opening}
-use Rattle.keep_event.specs.declared.task.Opening.TheVariants as O
-use Rattle.keep_event.specs.declared.task.TaskState.{TaskState}
-use Rattle.keep_event.specs.declared.task.TaskState.TheVariants as S
+use Rattle.keep_history.specs.declared.task.Command.{Command}
+use Rattle.keep_history.specs.declared.task.Command.TheVariants as C
+use Rattle.keep_history.specs.declared.task.Opening.{Opening}
+use Rattle.keep_history.specs.declared.task.Opening.TheVariants as O
+use Rattle.keep_history.specs.declared.task.TaskState.{TaskState}
+use Rattle.keep_history.specs.declared.task.TaskState.TheVariants as S
 use Rattle.keep_history.specs.Names.{Names, state_of_name}
 
 -- NAMES AND READINGS

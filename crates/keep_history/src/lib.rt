@@ -1,2 +1,6 @@
-//! Definitions over whole runs, in `specs/`: what a script line asks, what a task asks next, what lines do and print, and how a run ends. No code.
+//! Tasks and script lines, and in `specs/` definitions over whole runs: what a script line asks, what a task asks next, what lines do and print, and how a run ends.
 #![tactic(auto)]
+
+mod task;
+
+pub use task::{Command, Opening, Outcome, Task, TaskState};

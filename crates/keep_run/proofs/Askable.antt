@@ -1,13 +1,13 @@
 -- Open tasks stay in the form that may be asked.
 use Rattle.std.proofs.Common.{◌≡◌, ℕ, List, Option, None, Some, IfSome, Ok, subst}
 use Rattle.keep_spec.specs.Config.{Configuration}
-use Rattle.keep_event.specs.declared.task.Opening.{Opening}
-use Rattle.keep_event.specs.declared.task.Opening.TheVariants as Open
-use Rattle.keep_event.specs.declared.task.Outcome.{Outcome}
-use Rattle.keep_event.specs.declared.task.Outcome.TheVariants as O
-use Rattle.keep_event.specs.declared.task.Task.{Task}
-use Rattle.keep_event.specs.declared.task.TaskState.{TaskState}
-use Rattle.keep_event.specs.declared.task.TaskState.TheVariants as S
+use Rattle.keep_history.specs.declared.task.Opening.{Opening}
+use Rattle.keep_history.specs.declared.task.Opening.TheVariants as Open
+use Rattle.keep_history.specs.declared.task.Outcome.{Outcome}
+use Rattle.keep_history.specs.declared.task.Outcome.TheVariants as O
+use Rattle.keep_history.specs.declared.task.Task.{Task}
+use Rattle.keep_history.specs.declared.task.TaskState.{TaskState}
+use Rattle.keep_history.specs.declared.task.TaskState.TheVariants as S
 use Rattle.keep_history.specs.Effects.{state_after}
 use Rattle.keep_history.specs.Names.{Names, state_of_name, with_name}
 use Rattle.keep_history.specs.Script.{HasTimes}

@@ -7,8 +7,8 @@ use Rattle.keep_spec.specs.Config.{Configuration}
 use Rattle.keep_event.specs.Device.{State, Reply, step, may_fault}
 use Rattle.keep_event.specs.declared.device.DeviceAnswer.{DeviceAnswer}
 use Rattle.keep_event.specs.declared.device.DeviceQuery.{DeviceQuery}
-use Rattle.keep_event.specs.declared.task.Outcome.{Outcome}
-use Rattle.keep_event.specs.declared.task.Task.{Task}
+use Rattle.keep_history.specs.declared.task.Outcome.{Outcome}
+use Rattle.keep_history.specs.declared.task.Task.{Task}
 use Rattle.keep_history.specs.Effects.{Made, Asked, asked, is_failed, fails_at, finished, after_made, made_of, rules_of, event_lines}
 use Rattle.keep_history.specs.Faults.{AgreeFrom, AreFaults}
 use Rattle.keep_history.specs.Printed.{event_line}

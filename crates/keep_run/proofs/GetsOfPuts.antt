@@ -15,16 +15,16 @@ use Rattle.keep_event.specs.declared.names.Name.{Name}
 use Rattle.keep_event.specs.declared.names.Stored.{Stored}
 use Rattle.keep_event.specs.declared.device.DeviceAnswer.{DeviceAnswer}
 use Rattle.keep_event.specs.declared.device.DeviceQuery.TheVariants as Q
-use Rattle.keep_event.specs.declared.task.Command.{Command}
-use Rattle.keep_event.specs.declared.task.Command.TheVariants as C
-use Rattle.keep_event.specs.declared.task.Opening.{Opening}
-use Rattle.keep_event.specs.declared.task.Opening.TheVariants as Open
-use Rattle.keep_event.specs.declared.task.Outcome.{Outcome}
-use Rattle.keep_event.specs.declared.task.Outcome.TheVariants as O
-use Rattle.keep_event.specs.declared.task.Task.{Task}
-use Rattle.keep_event.specs.declared.task.Task.TheVariants as T
-use Rattle.keep_event.specs.declared.task.TaskState.{TaskState}
-use Rattle.keep_event.specs.declared.task.TaskState.TheVariants as S
+use Rattle.keep_history.specs.declared.task.Command.{Command}
+use Rattle.keep_history.specs.declared.task.Command.TheVariants as C
+use Rattle.keep_history.specs.declared.task.Opening.{Opening}
+use Rattle.keep_history.specs.declared.task.Opening.TheVariants as Open
+use Rattle.keep_history.specs.declared.task.Outcome.{Outcome}
+use Rattle.keep_history.specs.declared.task.Outcome.TheVariants as O
+use Rattle.keep_history.specs.declared.task.Task.{Task}
+use Rattle.keep_history.specs.declared.task.Task.TheVariants as T
+use Rattle.keep_history.specs.declared.task.TaskState.{TaskState}
+use Rattle.keep_history.specs.declared.task.TaskState.TheVariants as S
 use Rattle.keep_history.specs.Effects.{Scene, Effect, Asking, asked, fails_at, finished, reply_to, asked_at, rules_of, effect_of_line, effect_of_command, finish_state, finish_effect, task_effect, open_effect, names_after, state_after}
 use Rattle.keep_history.specs.Names.{Names, state_of_name}
 use Rattle.keep_history.specs.Reads.{bytes_put, Read, given, given_by, read_by, IsAmong, IsOfPut, AreOfPuts, AreOfPutsUnder, ReadsOfPieces, ReadsAreOfPuts}

@@ -11,14 +11,14 @@ use Rattle.keep_event.specs.Device.{State}
 use Rattle.keep_event.specs.Table as tables
 use Rattle.keep_event.specs.Requests.{table_line}
 use Rattle.keep_event.specs.declared.table.TableQuery.{TableQuery}
-use Rattle.keep_event.specs.declared.task.Command.{Command}
-use Rattle.keep_event.specs.declared.task.Command.TheVariants as C
-use Rattle.keep_event.specs.declared.task.Opening.{Opening}
-use Rattle.keep_event.specs.declared.task.Outcome.{Outcome}
-use Rattle.keep_event.specs.declared.task.Task.{Task}
-use Rattle.keep_event.specs.declared.task.Task.TheVariants as T
-use Rattle.keep_event.specs.declared.task.TaskState.{TaskState}
-use Rattle.keep_event.specs.declared.task.TaskState.TheVariants as S
+use Rattle.keep_history.specs.declared.task.Command.{Command}
+use Rattle.keep_history.specs.declared.task.Command.TheVariants as C
+use Rattle.keep_history.specs.declared.task.Opening.{Opening}
+use Rattle.keep_history.specs.declared.task.Outcome.{Outcome}
+use Rattle.keep_history.specs.declared.task.Task.{Task}
+use Rattle.keep_history.specs.declared.task.Task.TheVariants as T
+use Rattle.keep_history.specs.declared.task.TaskState.{TaskState}
+use Rattle.keep_history.specs.declared.task.TaskState.TheVariants as S
 use Rattle.keep_volume.specs.Calls.{Device, state_of}
 use Rattle.keep_history.specs.Effects.{Effect, Asked, open_effect, finish_effect, table_effect, task_effect, finish_state, asked_at, effect_of_command, state_after, event_lines, line_after_end, names_after, finished, most_turns}
 use Rattle.keep_history.specs.Names.{Names, state_of_name, with_name}

@@ -7,7 +7,7 @@ use Rattle.keep_spec.specs.Config.{Configuration}
 use Rattle.keep_spec.specs.declared.status.Status.TheVariants as St
 use Rattle.keep_event.specs.Device.{State}
 use Rattle.keep_event.specs.Table as tables
-use Rattle.keep_event.specs.declared.task.Command.{Command}
+use Rattle.keep_history.specs.declared.task.Command.{Command}
 use Rattle.keep_history.specs.Effects.{Scene, Effect, effect_of_command, effect_of_line, no_effect}
 use Rattle.keep_history.specs.Names.{Names}
 use Rattle.keep_history.specs.Script.{command_of}

@@ -5,10 +5,10 @@ use Rattle.keep_spec.specs.declared.token.TokenId.{TokenId}
 use Rattle.keep_event.specs.declared.device.DeviceAnswer.{DeviceAnswer}
 use Rattle.keep_event.specs.declared.device.DeviceQuery.{DeviceQuery}
 use Rattle.keep_event.specs.declared.device.DeviceQuery.TheVariants as Q
-use Rattle.keep_event.specs.declared.task.Outcome.{Outcome}
-use Rattle.keep_event.specs.declared.task.Outcome.TheVariants as O
-use Rattle.keep_event.specs.declared.task.Task.{Task}
-use Rattle.keep_event.specs.declared.task.Task.TheVariants as T
+use Rattle.keep_history.specs.declared.task.Outcome.{Outcome}
+use Rattle.keep_history.specs.declared.task.Outcome.TheVariants as O
+use Rattle.keep_history.specs.declared.task.Task.{Task}
+use Rattle.keep_history.specs.declared.task.Task.TheVariants as T
 use Rattle.keep_history.specs.Tasks.{asks, ends, next, compares, writes, fetches, touches, untrashes, restarts, compare_end, write_end, fetch_end, touch_end, ends_or, writable, is_read_only, is_fault, nothing, fetched_none, found_by}
 use Rattle.keep_run.specs.Asked.{write_outcome, single_query, single_outcome, on_writable, device_of, is_put}
 

@@ -6,12 +6,12 @@ use Rattle.keep_spec.specs.Config.{Configuration, token_of}
 use Rattle.keep_spec.specs.Locator.{stripped}
 use Rattle.keep_spec.specs.declared.token.TokenId.{TokenId}
 use Rattle.keep_event.specs.declared.table.TableQuery.TheVariants as TQ
-use Rattle.keep_event.specs.declared.task.Opening.{Opening}
-use Rattle.keep_event.specs.declared.task.Opening.TheVariants as Open
-use Rattle.keep_event.specs.declared.task.Outcome.{Outcome}
-use Rattle.keep_event.specs.declared.task.Outcome.TheVariants as O
-use Rattle.keep_event.specs.declared.task.Task.{Task}
-use Rattle.keep_event.specs.declared.task.Task.TheVariants as T
+use Rattle.keep_history.specs.declared.task.Opening.{Opening}
+use Rattle.keep_history.specs.declared.task.Opening.TheVariants as Open
+use Rattle.keep_history.specs.declared.task.Outcome.{Outcome}
+use Rattle.keep_history.specs.declared.task.Outcome.TheVariants as O
+use Rattle.keep_history.specs.declared.task.Task.{Task}
+use Rattle.keep_history.specs.declared.task.Task.TheVariants as T
 use Rattle.keep_history.specs.Tasks.{opened, writable, with_token, put_opened, get_opened, touch_opened, untrash_opened, where_writable, permitted, with_digest, has_other_digest, empty_locator, collection_number}
 
 module _ (P : Task → Type 0) where

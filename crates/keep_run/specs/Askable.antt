@@ -1,12 +1,12 @@
 -- Tasks that may be asked: what they ask of the table is in its form; and openings that ask it. For private clauses.
 use Rattle.std.specs.Prelude.{⊤}
 use Rattle.std.specs.List.{AllByRecursion}
-use Rattle.keep_event.specs.declared.task.Opening.{Opening}
-use Rattle.keep_event.specs.declared.task.Opening.TheVariants as Open
-use Rattle.keep_event.specs.declared.task.Task.{Task}
-use Rattle.keep_event.specs.declared.task.Task.TheVariants as T
-use Rattle.keep_event.specs.declared.task.TaskState.{TaskState}
-use Rattle.keep_event.specs.declared.task.TaskState.TheVariants as S
+use Rattle.keep_history.specs.declared.task.Opening.{Opening}
+use Rattle.keep_history.specs.declared.task.Opening.TheVariants as Open
+use Rattle.keep_history.specs.declared.task.Task.{Task}
+use Rattle.keep_history.specs.declared.task.Task.TheVariants as T
+use Rattle.keep_history.specs.declared.task.TaskState.{TaskState}
+use Rattle.keep_history.specs.declared.task.TaskState.TheVariants as S
 use Rattle.keep_collections.specs.Verdicts.{IsAsked}
 use Rattle.keep_history.specs.Names.{Names}
 

@@ -7,7 +7,8 @@ ghost use Rattle.keep_run.specs.Asked.{IsFinished, IsPartFinished, write_outcome
 use crate::locator::{signed_locator, touched_locator};
 use crate::opening::is_writable;
 use keep_config::Config;
-use keep_event::{Block, DeviceAnswer, DeviceQuery, Outcome, Task};
+use keep_event::{Block, DeviceAnswer, DeviceQuery};
+use keep_history::{Outcome, Task};
 use keep_script::push_event_line;
 use keep_spec::{Bytes, Digest, NoMemory, TokenId};
 use keep_store::Store;

@@ -5,7 +5,8 @@ ghost use Rattle.keep_run.specs.Askable.{AsksTable};
 
 use crate::collections::collection_number;
 use keep_config::Config;
-use keep_event::{Block, Opening, Outcome, TableQuery, Task};
+use keep_event::{Block, TableQuery};
+use keep_history::{Opening, Outcome, Task};
 use keep_locator::Locator;
 use keep_sign::verify;
 use keep_spec::{Bytes, Digest, NoMemory, TokenId, Unverified, Verified};

@@ -12,7 +12,7 @@ use crate::collections::ask_task;
 use crate::opening::opened;
 use keep_collections::Table;
 use keep_config::Config;
-use keep_event::{Command, Opening, Outcome, Task, TaskState};
+use keep_history::{Command, Opening, Outcome, Task, TaskState};
 use keep_script::push_end_line;
 use keep_spec::{Bytes, NoMemory};
 use keep_store::Store;

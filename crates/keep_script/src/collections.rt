@@ -7,7 +7,8 @@ ghost use Rattle.keep_history.specs.Script.{ended_text, joined_parts, manifest_o
 use crate::fields::copied;
 use crate::opening::locator_of_value;
 use keep_config::json::{has_members, number_at, text_at, truth_or};
-use keep_event::{Opening, SaveRequest, TaskState};
+use keep_event::SaveRequest;
+use keep_history::{Opening, TaskState};
 use keep_spec::{Bytes, NoMemory};
 use serde_json::Value;
 use std::alloc::Global;

@@ -7,7 +7,7 @@ ghost use Rattle.keep_history.specs.Names.{state_of_name};
 use crate::fields::{name_at, reading_at};
 use crate::opening::opening_of_kind;
 use keep_config::json::{has_members, text_at, value_of};
-use keep_event::{Command, TaskState};
+use keep_history::{Command, TaskState};
 use keep_spec::{Bytes, NoMemory};
 use serde_json::Value;
 use std::alloc::Global;

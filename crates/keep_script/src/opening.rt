@@ -9,7 +9,7 @@ use crate::collections::table_opening_of_kind;
 use crate::fields::{copied, device_at, server_at};
 use crate::hexadecimal::bytes_of_text;
 use keep_config::json::{has_members, text_at};
-use keep_event::{Opening, TaskState};
+use keep_history::{Opening, TaskState};
 use keep_spec::{Bytes, Digest, NoMemory};
 use serde_json::Value;
 use std::alloc::Global;

@@ -6,7 +6,8 @@ ghost use Rattle.keep_history.specs.Printed.{answer_words, bytes_field, digest_f
 use crate::hexadecimal::push_digits;
 use crate::tables::{push_hash, push_numbers, push_optional, push_quoted, push_table_answer};
 use itoa::Buffer;
-use keep_event::{DeviceAnswer, Outcome};
+use keep_event::DeviceAnswer;
+use keep_history::Outcome;
 use keep_spec::{Bytes, Digest, NoMemory, Portable};
 
 /// Writes the line of an event of a named task on a device behind `out`. On a refusal part of the line may stand there.

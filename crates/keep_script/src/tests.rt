@@ -1,8 +1,6 @@
 use super::*;
-use keep_event::{
-    Command, DeviceAnswer, Entry, Opening, Outcome, PullItem, SaveRequest, TableAnswer, Task,
-    TaskState,
-};
+use keep_event::{DeviceAnswer, Entry, PullItem, SaveRequest, TableAnswer};
+use keep_history::{Command, Opening, Outcome, Task, TaskState};
 use keep_spec::{Bytes, Digest, Items};
 use std::alloc::{AllocError, Global};
 use std::collections::BTreeMap;

@@ -1,5 +1,5 @@
 use Rattle.std.proofs.Common.{◌≡◌, [], ◌∷◌, ◌+◌, Some, None, refl, sym, ◌∙◌, ap, arith, if◌then◌else◌}
-use Rattle.keep_event.specs.declared.task.Task.TheVariants as T
+use Rattle.keep_history.specs.declared.task.Task.TheVariants as T
 use Rattle.keep_event.specs.declared.device.DeviceQuery.TheVariants as Q
 use Rattle.keep_history.specs.Tasks.{ends, writable, compare_end}
 use Rattle.keep_run.specs.Asked.{IsPartFinished, write_outcome}

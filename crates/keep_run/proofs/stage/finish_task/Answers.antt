@@ -1,9 +1,9 @@
 use Rattle.std.proofs.Common.{refl, sym, ◌∙◌, ap, arith, ◌++◌}
-use Rattle.keep_event.specs.declared.task.TaskState.TheVariants as S
+use Rattle.keep_history.specs.declared.task.TaskState.TheVariants as S
 use Rattle.keep_history.specs.Effects.{state_after}
 use Rattle.keep_history.specs.Names.{state_of_name, with_name}
 use Rattle.keep_history.specs.Printed.{end_line}
-use Rattle.keep_event.specs.declared.task.Command.TheVariants as C
+use Rattle.keep_history.specs.declared.task.Command.TheVariants as C
 use Rattle.keep_run.specs.Commands.{StopsCommand, open_task_of}
 use Rattle.keep_run.proofs.LineSteps.{does-task, done-stopped, refuses-finish, stops-before, stops-task, with_name-twice}
 use Rattle.keep_run.proofs.Askable.{ended-askable, found-askable, gone-askable}

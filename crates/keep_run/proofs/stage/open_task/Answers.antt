@@ -1,8 +1,8 @@
 use Rattle.std.proofs.Common.{refl, sym, ◌∙◌, ap, arith, ◌++◌}
-use Rattle.keep_event.specs.declared.task.TaskState.TheVariants as S
+use Rattle.keep_history.specs.declared.task.TaskState.TheVariants as S
 use Rattle.keep_history.specs.Names.{with_name}
 use Rattle.keep_history.specs.Printed.{end_line}
-use Rattle.keep_event.specs.declared.task.Command.TheVariants as C
+use Rattle.keep_history.specs.declared.task.Command.TheVariants as C
 use Rattle.keep_run.specs.Commands.{StopsCommand}
 use Rattle.keep_run.proofs.LineSteps.{does-open-task, does-open-ended, stops-before}
 use Rattle.keep_run.proofs.Askable.{ended-askable, open-askable, opened-askable}

@@ -1,5 +1,5 @@
 // Tasks: what opens them, what they go on with, and how they end.
-use crate::{Block, SaveRequest, TableAnswer, TableQuery};
+use keep_event::{Block, SaveRequest, TableAnswer, TableQuery};
 use keep_spec::{Bytes, Digest, Portable, TokenId};
 
 /// What a task is opened with. A server and a device are named by their numbers in the configuration, from 0.
