@@ -1,4 +1,5 @@
 pub mod Block
+pub mod Collections
 pub mod Device
 pub mod Requests
 pub mod Store
