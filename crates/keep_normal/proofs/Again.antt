@@ -96,7 +96,7 @@ paths_of : (gs : List (List ℕ × List (List Part))) → map (λ (f : FileParts
 paths_of [] = refl
 paths_of (g ∷ gs) = ap (λ ks. g.0 ∷ ks) (paths_of gs)
 
-file_paths : (gs : List (List ℕ × List (List Part))) → map (λ (f : FileParts). f.path) (map file_of gs) ≡ keys_of gs
+pub file_paths : (gs : List (List ℕ × List (List Part))) → map (λ (f : FileParts). f.path) (map file_of gs) ≡ keys_of gs
 file_paths [] = refl
 file_paths (g ∷ gs) = ap (λ ks. g.0 ∷ ks) (file_paths gs)
 

@@ -21,7 +21,7 @@ use Rattle.keep_normal.proofs.Table.{IsAscending, order-same, at-same, lookup-in
 abbrev pub has_key : List ℕ → List ℕ → Bool
 has_key k q = is_at (byte_order k) q
 
-abbrev found : {X : Type 0} → List (List ℕ × X) → List ℕ → Option X
+abbrev pub found : {X : Type 0} → List (List ℕ × X) → List ℕ → Option X
 found m k = lookup (has_key k) m
 
 pub key-same : (k : List ℕ) → has_key k k ≡ true
@@ -32,7 +32,7 @@ above_none : {X : Type 0} (k : List ℕ) (m : List (List ℕ × X)) → AllByRec
 above_none k [] h = refl
 above_none k (g ∷ m) h = ap (λ o. cond (is_eq o) (Some g.1) (found m k)) h.0 ∙ above_none k m h.1
 
-found_first : {X : Type 0} (g : List ℕ × X) (m : List (List ℕ × X)) → found (g ∷ m) g.0 ≡ Some g.1
+pub found_first : {X : Type 0} (g : List ℕ × X) (m : List (List ℕ × X)) → found (g ∷ m) g.0 ≡ Some g.1
 found_first g m = ap (λ b. cond b (Some g.1) (found m g.0)) (key-same g.0)
 
 found_below : {X : Type 0} (k : List ℕ) (h : List ℕ × X) (n : List (List ℕ × X)) → IsAscending (h ∷ n) → byte_order k h.0 ≡ Less → found (h ∷ n) k ≡ None

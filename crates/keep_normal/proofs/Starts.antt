@@ -25,7 +25,7 @@ start-le [] l n h = absurd (none-some n h)
 start-le (b ∷ bs) l n h = least_by b bs l n (bytes_eq b l) (start_at bs l) refl refl (start-le bs l) h
 
 -- a block that is none of these
-missing : (b : List ℕ) (bs : List (List ℕ)) (l : List ℕ) → start_at (b ∷ bs) l ≡ None → (bytes_eq b l ≡ false) × (start_at bs l ≡ None)
+pub missing : (b : List ℕ) (bs : List (List ℕ)) (l : List ℕ) → start_at (b ∷ bs) l ≡ None → (bytes_eq b l ≡ false) × (start_at bs l ≡ None)
 missing b bs l h = by_first (bytes_eq b l) refl (start_at bs l) refl
   where
     by_first : (e : Bool) → bytes_eq b l ≡ e → (o : Option ℕ) → start_at bs l ≡ o → (bytes_eq b l ≡ false) × (start_at bs l ≡ None)

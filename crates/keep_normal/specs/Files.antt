@@ -9,7 +9,7 @@ use Rattle.keep_spec.specs.declared.manifest.Segment.{Segment}
 use Rattle.keep_normal.specs.declared.part.Part.{Part}
 use Rattle.keep_normal.specs.declared.part.FileParts.{FileParts}
 use Rattle.keep_normal.specs.declared.span.Span.{Span}
-use Rattle.keep_normal.specs.Grouped.{grouped}
+use Rattle.keep_normal.specs.Grouped.{grouped, keys_in, values_of}
 use Rattle.keep_normal.specs.Joined.{joined}
 
 -- the bytes of a stream that a segment names
@@ -65,6 +65,14 @@ file_of g = record { path = g.0; parts = joined_parts (flat_map (λ ps. ps) g.1)
 -- the files in ascending order of their paths, each with its parts in the order of the text; parts have whole locators
 unfoldable pub files : Manifest → List FileParts
 files m = map file_of (grouped (pieces m))
+
+-- the paths that segments name, as often as they do
+abbrev pub paths_named : Manifest → List (List ℕ)
+paths_named m = keys_in (pieces m)
+
+-- what the segments with this path name, in the order of the text, parts that touch joined
+abbrev pub parts_named : Manifest → List ℕ → List Part
+parts_named m path = joined_parts (flat_map (λ ps. ps) (values_of path (pieces m)))
 
 abbrev pub stripped_part : Part → Part
 stripped_part p = record { locator = stripped p.locator; offset = p.offset; length = p.length }

@@ -1,5 +1,6 @@
 pub mod Answers
 pub mod Files
+pub mod FirstUse
 pub mod Grouped
 pub mod Joined
 pub mod Known

@@ -1,5 +1,5 @@
 -- The normal form of a manifest (Arvados), which its files alone decide.
-use Rattle.std.specs.Prelude.{ℕ, ◌+◌, ◌-◌, ◌^◌, ◌==◌, ◌&&◌, nat_lt, Bool, List, [], ◌∷◌, ◌++◌, map, fold, codes, Option, None, Some, option_map, unwrap_or, is_some, if◌then◌else◌}
+use Rattle.std.specs.Prelude.{ℕ, ◌+◌, ◌-◌, ◌^◌, ◌==◌, ◌&&◌, nat_lt, Bool, List, [], ◌∷◌, ◌++◌, map, filter, fold, codes, Option, None, Some, option_map, unwrap_or, is_some, if◌then◌else◌}
 use Rattle.std.specs.List.{flat_map, list_all}
 use Rattle.std.specs.Str.{bytes_eq}
 use Rattle.keep_spec.specs.Locator.{size}
@@ -87,6 +87,14 @@ line_of g =
 
 abbrev pub by_directory : List FileParts → List (List ℕ × FileParts)
 by_directory fs = map (λ f. (directory f, f)) fs
+
+-- the files of a directory, in their order
+abbrev pub files_in : List FileParts → List ℕ → List FileParts
+files_in fs d = filter (λ f. bytes_eq d (directory f)) fs
+
+-- the blocks that files use, as often as they do, in their order
+abbrev pub uses : List FileParts → List (List ℕ)
+uses fs = flat_map locators_of fs
 
 -- one line for each directory of files with stripped locators, directories and the names in each in order of their bytes
 unfoldable pub normal_of : List FileParts → Manifest

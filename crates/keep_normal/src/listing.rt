@@ -1,12 +1,12 @@
 // The files of a manifest.
-ghost use Rattle.std.specs.Prelude.{◌≡◌, map, fold, IsTrue, IfOk, OnOk};
+ghost use Rattle.std.specs.Prelude.{◌≡◌, ◌↔◌, ℕ, List, map, fold, All, Contains, IsTrue, IfOk, OnOk};
 ghost use Rattle.std.specs.BTreeMap.{IsOrdered};
 ghost use Rattle.std.specs.List.{list_all};
 ghost use Rattle.std.specs.List.Sorted.{IsStrictlySortedBy};
 ghost use Rattle.keep_spec.specs.Manifest.{IsGood};
 ghost use Rattle.keep_manifest.specs.Good.{is_good_manifest, is_good_stream};
 ghost use Rattle.keep_normal.specs.Grouped.{byte_order, put, grouped};
-ghost use Rattle.keep_normal.specs.Files.{files as files_of, file_of, is_mark, path_of, piece_of, stream_pieces, pieces};
+ghost use Rattle.keep_normal.specs.Files.{files as files_of, file_of, is_mark, path_of, piece_of, stream_pieces, pieces, paths_named, parts_named};
 ghost use Rattle.keep_normal.specs.Placed.{placed};
 ghost use Rattle.keep_normal.specs.Sound.{are_sound};
 
@@ -26,6 +26,11 @@ pub fn files(alloc: Global, manifest: &Manifest) -> Result<Vec<FileParts>, NoMem
     requires { IsGood manifest.now }
     ensures files { IfOk result (λ files. files.items ≡ files_of manifest.now) }
     ensures ascending { IfOk result (λ files. IsStrictlySortedBy byte_order (map (λ f. f.path) files.items)) }
+
+    // A path is that of a file exactly where a segment names it, and the file has what the segments with this path name.
+    ensures paths { IfOk result
+        (λ files. (path : List ℕ) → Contains (map (λ f. f.path) files.items) path ↔ Contains (paths_named manifest.now) path) }
+    ensures parts { IfOk result (λ files. All (λ f. f.parts ≡ parts_named manifest.now f.path) files.items) }
 {
     let pieces = pieces_of(alloc, manifest)?;
     Ok(files_from(alloc, pieces)?)

@@ -1,11 +1,13 @@
 // The normal form of a manifest.
-ghost use Rattle.std.specs.Prelude.{◌≡◌, map, IsTrue, IfOk};
+ghost use Rattle.std.specs.Prelude.{◌≡◌, ◌↔◌, ℕ, List, map, All, Contains, IsTrue, IfOk};
 ghost use Rattle.std.specs.List.{list_all};
+ghost use Rattle.std.specs.List.Sorted.{IsStrictlySortedBy};
 ghost use Rattle.keep_spec.specs.Manifest.{IsGood};
 ghost use Rattle.keep_normal.specs.Answers.{Answers, Gathers};
 ghost use Rattle.keep_normal.specs.Files.{stripped_file, stripped_part, ranges};
-ghost use Rattle.keep_normal.specs.Grouped.{grouped};
-ghost use Rattle.keep_normal.specs.Normal.{normal, is_small, is_small_stream, line_of, by_directory};
+ghost use Rattle.keep_normal.specs.FirstUse.{ListsBlocks};
+ghost use Rattle.keep_normal.specs.Grouped.{byte_order, grouped};
+ghost use Rattle.keep_normal.specs.Normal.{normal, is_small, is_small_stream, line_of, by_directory, directory, files_in, uses};
 ghost use Rattle.keep_normal.specs.Sound.{are_sound};
 
 use crate::fault::NormalError;
@@ -31,6 +33,14 @@ pub fn normalize(alloc: Global, manifest: &Manifest) -> Result<Manifest, NormalE
     ensures good { IfOk result IsGood }
     ensures files { IfOk result (λ n. ranges n ≡ ranges manifest.now) }
     ensures again { IfOk result (λ n. normal n ≡ n) }
+
+    // Its lines: one for each directory that has files, ascending, with this directory's files and the blocks that they use.
+    ensures ascending { IfOk result (λ n. IsStrictlySortedBy byte_order (map (λ s. s.name) n.streams)) }
+    ensures directories { IfOk result
+        (λ n. (d : List ℕ) → Contains (map (λ s. s.name) n.streams) d ↔ Contains (map directory (ranges manifest.now)) d) }
+    ensures lines { IfOk result (λ n. All (λ s. s ≡ line_of (s.name, files_in (ranges manifest.now) s.name)) n.streams) }
+    ensures blocks { IfOk result
+        (λ n. All (λ s. ListsBlocks (uses (files_in (ranges manifest.now) s.name)) s.locators) n.streams) }
 {
     let files = files(alloc, manifest)?;
     let directories = by_directory(alloc, &files)?;

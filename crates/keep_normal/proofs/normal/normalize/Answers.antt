@@ -1,15 +1,19 @@
-use Rattle.std.proofs.Common.{◌∙◌, ap, sym, subst, Err, map, List}
+use Rattle.std.proofs.Common.{◌≡◌, ℕ, ◌∙◌, ap, sym, subst, Err, map, List}
 use Rattle.keep_spec.specs.declared.manifest.Manifest.{Manifest}
 use Rattle.keep_spec.specs.declared.manifest.Stream.{Stream}
+use Rattle.std.specs.Prelude.{◌↔◌, All, Contains}
 use Rattle.std.specs.List.{list_all}
+use Rattle.std.specs.List.Sorted.{IsStrictlySortedBy}
 use Rattle.std.proofs.lemmas.Result.{err_from_is_err_and}
 use Rattle.keep_manifest.proofs.WellFormed.{good_is}
 use Rattle.keep_normal.specs.Answers.{Answers}
 use Rattle.keep_normal.specs.Files.{stripped_file, ranges}
-use Rattle.keep_normal.specs.Grouped.{grouped}
-use Rattle.keep_normal.specs.Normal.{normal, normal_of, is_small, is_small_stream, line_of, by_directory}
+use Rattle.keep_normal.specs.Grouped.{byte_order, grouped}
+use Rattle.keep_normal.specs.FirstUse.{ListsBlocks}
+use Rattle.keep_normal.specs.Normal.{normal, normal_of, is_small, is_small_stream, line_of, by_directory, directory, files_in, uses}
 use Rattle.keep_normal.specs.Sound.{are_sound}
 use Rattle.keep_normal.proofs.Again.{ranges-normal, normal-normal}
+use Rattle.keep_normal.proofs.FileProperties.{lines-ascending, lines-directories, lines-are, lines-list}
 use Rattle.keep_normal.proofs.Fails.{fails_with}
 use Rattle.keep_normal.proofs.Gathered.{all_values}
 use Rattle.keep_normal.proofs.Goods.{normal-good}
@@ -61,3 +65,22 @@ pub returns-clause-good : goal.returns-clause-good
 returns-clause-good c =
     let m = c.args.manifest.now in
     subst IsGood (sym (returns-clause-answer c).0) (normal-good m c.requires (returns-clause-answer c).1)
+
+pub returns-clause-ascending : goal.returns-clause-ascending
+returns-clause-ascending c =
+    subst (λ (n : Manifest). IsStrictlySortedBy byte_order (map (λ (s : Stream). s.name) n.streams)) (sym (returns-clause-answer c).0) (lines-ascending (ranges c.args.manifest.now))
+
+pub returns-clause-directories : goal.returns-clause-directories
+returns-clause-directories c =
+    let fs = ranges c.args.manifest.now in
+    subst (λ (n : Manifest). (d : List ℕ) → Contains (map (λ (s : Stream). s.name) n.streams) d ↔ Contains (map directory fs) d) (sym (returns-clause-answer c).0) (lines-directories fs)
+
+pub returns-clause-lines : goal.returns-clause-lines
+returns-clause-lines c =
+    let fs = ranges c.args.manifest.now in
+    subst (λ (n : Manifest). All (λ s. s ≡ line_of (s.name, files_in fs s.name)) n.streams) (sym (returns-clause-answer c).0) (lines-are fs)
+
+pub returns-clause-blocks : goal.returns-clause-blocks
+returns-clause-blocks c =
+    let fs = ranges c.args.manifest.now in
+    subst (λ (n : Manifest). All (λ s. ListsBlocks (uses (files_in fs s.name)) s.locators) n.streams) (sym (returns-clause-answer c).0) (lines-list fs)
