@@ -3,7 +3,10 @@ ghost use Rattle.std.specs.Prelude.{◌≡◌, ◌==◌, IfOk, map, filter};
 ghost use Rattle.keep_spec.specs.Config.{firsts};
 
 use crate::error::ConfigError;
-use keep_spec::{Bytes, Device, Items, Mount, NoMemory, Server, TokenId};
+use keep_spec::{
+    Bytes, Device, Items, Mount, NANOS_PER_SECOND, NoMemory, Server, TokenId, grace_nanos,
+    guard_nanos,
+};
 use std::alloc::Global;
 use std::marker::Model;
 
@@ -47,7 +50,8 @@ impl Model for Config {
 
 impl Config {
     ghost use Rattle.std.specs.Prelude.{◌≡◌, ◌↔◌, ◌+◌, ◌<◌, ◌≤◌, length, Some, IfOk, IsTrue, All, slice_get};
-    ghost use Rattle.keep_spec.specs.Config.{token_of, token_text, devices_of, guard, grace, trash_life_nanos, threshold};
+    ghost use Rattle.keep_spec.specs.Config.{token_of, token_text, devices_of};
+    ghost use Rattle.keep_spec.specs.Times.{nanos, guard, grace, threshold};
 
     /// Whether both say the same. `==` answers this too.
     pub fn same(&self, other: &Config) -> bool
@@ -101,27 +105,27 @@ impl Config {
 
     /// Twice the skew, in nanoseconds.
     pub fn guard_nanos(&self) -> u64
-        ensures { result ≡ guard self.now }
+        ensures { result ≡ guard self.now.skew }
     {
-        2 * u64::from(self.skew) * 1_000_000_000
+        guard_nanos(self.skew)
     }
 
     /// How long a block must be kept after it was signed, in nanoseconds: the lifetime of a signature and twice the skew.
     pub fn grace_nanos(&self) -> u64
-        ensures { result ≡ grace self.now }
+        ensures { result ≡ grace self.now.ttl self.now.skew }
     {
-        u64::from(self.ttl) * 1_000_000_000 + self.guard_nanos()
+        grace_nanos(self.ttl, self.skew)
     }
 
     pub fn trash_life_nanos(&self) -> u64
-        ensures { result ≡ trash_life_nanos self.now }
+        ensures { result ≡ nanos self.now.trash_life }
     {
-        u64::from(self.trash_life) * 1_000_000_000
+        u64::from(self.trash_life) * NANOS_PER_SECOND
     }
 
     /// A round that starts at this reading may trash what is older than the result, both in nanoseconds.
     pub fn threshold(&self, start: u64) -> u64
-        ensures { result ≡ threshold self.now start }
+        ensures { result ≡ threshold self.now.ttl self.now.skew start }
     {
         start.saturating_sub(self.grace_nanos())
     }

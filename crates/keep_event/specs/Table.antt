@@ -1,8 +1,10 @@
 -- The table machine: a reply to each query, over plain lists. This is the project's own rule.
-use Rattle.std.specs.Prelude.{ℕ, ◌+◌, ◌-◌, ◌*◌, ◌/◌, ◌^◌, ◌==◌, ◌&&◌, ◌||◌, nat_lt, nat_le, min, max, not, List, [], ◌∷◌, ◌++◌, length, map, filter, take, count_by, Bool, true, false, Option, None, Some, unwrap_or, Result, Ok, Err, ok_or, if◌then◌else◌}
+use Rattle.std.specs.Prelude.{ℕ, ◌+◌, ◌/◌, ◌^◌, ◌==◌, ◌&&◌, ◌||◌, nat_lt, nat_le, min, max, not, List, [], ◌∷◌, ◌++◌, length, map, filter, take, count_by, Bool, true, false, Option, None, Some, unwrap_or, Result, Ok, Err, ok_or, if◌then◌else◌}
 use Rattle.std.specs.List.{find}
 use Rattle.std.specs.Option.{option_map_or}
 pub use Rattle.keep_spec.specs.Results.{◌>>=◌}
+use Rattle.keep_spec.specs.Times.{guard, grace, expiry_at}
+use Rattle.keep_spec.specs.declared.times.TheConstants.{NANOS_PER_SECOND}
 use Rattle.keep_spec.specs.declared.token.TokenId.{TokenId}
 use Rattle.keep_event.specs.declared.table.TableRules.{TableRules}
 use Rattle.keep_event.specs.declared.table.Standing.{Standing}
@@ -36,16 +38,6 @@ stays answer s = record { answer = answer; state = s }
 abbrev pub unless_refused : {X : Type 0} → State → Result X TableAnswer → (X → Reply) → Reply
 unless_refused s (Err refusal) next = stays refusal s
 unless_refused s (Ok x) next = next x
-
--- ---- times, in nanoseconds
-
--- twice the skew
-abbrev pub guard : TableRules → ℕ
-guard rules = 2 * rules.skew * 10 ^ 9
-
--- the lifetime of a signature, and the guard
-abbrev pub grace : TableRules → ℕ
-grace rules = rules.ttl * 10 ^ 9 + guard rules
 
 -- ---- records and collections
 
@@ -149,7 +141,7 @@ abbrev pub current_version : ℕ → State → ℕ
 current_version number s = option_map_or (λ r. r.version) (find (is_current_of number) s.records) 0
 
 abbrev pub kept_until : TableRules → ℕ → Bool → Standing
-kept_until rules reading preserve = if preserve then Preserved else Kept (reading + grace rules)
+kept_until rules reading preserve = if preserve then Preserved else Kept (reading + grace rules.ttl rules.skew)
 
 abbrev pub with_update : TableRules → ℕ → ℕ → NewRecord → Bool → State → Reply
 with_update rules reading number made preserve s = record {
@@ -180,13 +172,13 @@ is_readable number (Some version) r =
 
 -- the expiry, in seconds, of what is signed at a reading
 abbrev pub signed_until : TableRules → ℕ → ℕ
-signed_until rules reading = min (reading / 10 ^ 9 + rules.ttl) (2 ^ 32 - 1)
+signed_until rules reading = expiry_at rules.ttl reading
 
 -- the expiry of a read: not after the collection is in the trash; none where it is
 abbrev pub expiry_of : TableRules → ℕ → Collection → Option ℕ
 expiry_of rules reading x =
     if is_in_trash reading x then None
-    else Some (option_map_or (λ at. min (signed_until rules reading) (at / 10 ^ 9)) x.trash_at (signed_until rules reading))
+    else Some (option_map_or (λ at. min (signed_until rules reading) (at / NANOS_PER_SECOND)) x.trash_at (signed_until rules reading))
 
 abbrev pub row_answer : TableRules → ℕ → Record → Collection → TableAnswer
 row_answer rules reading r x = Row r.collection r.version (expiry_of rules reading x) r.made.want x.trash_at r.made.text
@@ -212,7 +204,7 @@ abbrev pub with_collections : List Collection → State → State
 with_collections xs s = record { records = s.records; collections = xs; numbers = s.numbers; revisions = s.revisions; rounds = s.rounds }
 
 abbrev pub deleted_at : TableRules → ℕ → ℕ → ℕ → ℕ
-deleted_at rules reading trash_at asked = max asked (max (reading + grace rules) (trash_at + guard rules))
+deleted_at rules reading trash_at asked = max asked (max (reading + grace rules.ttl rules.skew) (trash_at + guard rules.skew))
 
 unfoldable pub set_trash : TableRules → ℕ → TokenId → ℕ → ℕ → ℕ → State → Reply
 set_trash rules reading token number trash_at asked s =

@@ -1,7 +1,8 @@
 -- What script lines do: the events that they make, what these leave, and the text that is printed.
 use Rattle.std.specs.Prelude.{ℕ, zero, suc, ◌+◌, ◌==◌, ◌&&◌, List, [], ◌∷◌, ◌++◌, length, Bool, true, Option, None, Some, Result, Ok, Err, if◌then◌else◌, option_and_then, slice_get}
 use Rattle.std.specs.List.{list_any}
-use Rattle.keep_spec.specs.Config.{Configuration, grace, trash_life_nanos}
+use Rattle.keep_spec.specs.Config.{Configuration}
+use Rattle.keep_spec.specs.Times.{grace, nanos}
 use Rattle.keep_spec.specs.declared.config.Device.{Device}
 use Rattle.keep_event.specs.Device.{State, Reply, stays, step, may_fault}
 use Rattle.keep_event.specs.declared.device.DeviceRules.{DeviceRules}
@@ -50,7 +51,7 @@ pub record Effect : Type 0 where
 -- what the configuration says of its one device
 abbrev pub device_rules : Configuration → Option Device → DeviceRules
 device_rules c None = record { capacity = 0; read_only = true; grace = 0; trash_life = 0 }
-device_rules c (Some d) = record { capacity = d.capacity; read_only = d.read_only; grace = grace c; trash_life = trash_life_nanos c }
+device_rules c (Some d) = record { capacity = d.capacity; read_only = d.read_only; grace = grace c.ttl c.skew; trash_life = nanos c.trash_life }
 
 abbrev pub rules_of : Configuration → DeviceRules
 rules_of c = device_rules c (slice_get c.devices 0)

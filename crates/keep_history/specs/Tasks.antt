@@ -1,5 +1,5 @@
 -- Tasks: how an opening ends at once or what task it makes, and what a task asks next or how it ends, a function of the task and of the answers so far. The order of the tests is this project's rule.
-use Rattle.std.specs.Prelude.{ℕ, ◌+◌, ◌/◌, ◌-◌, ◌^◌, ◌==◌, ◌||◌, ◌&&◌, nat_lt, min, not, filter, take, drop, replicate, is_some, List, [], ◌∷◌, ◌++◌, length, Bool, true, false, Option, None, Some, Result, Ok, Err, if◌then◌else◌, codes, option_map, unwrap_or, slice_get}
+use Rattle.std.specs.Prelude.{ℕ, ◌+◌, ◌-◌, ◌==◌, ◌||◌, ◌&&◌, nat_lt, not, filter, take, drop, replicate, is_some, List, [], ◌∷◌, ◌++◌, length, Bool, true, false, Option, None, Some, Result, Ok, Err, if◌then◌else◌, codes, option_map, unwrap_or, slice_get}
 use Rattle.std.specs.Str.{bytes_eq}
 use Rattle.std.specs.Fmt.{decimal}
 use Rattle.hex.specs.Hex.{encode_lower}
@@ -7,6 +7,7 @@ use Rattle.md5.specs.Md5.{md5}
 use Rattle.keep_spec.specs.Sign.{hex8, signature_of, verdict}
 use Rattle.keep_spec.specs.Locator.{is_locator, locator_front, is_empty_block, digest, stripped}
 use Rattle.keep_spec.specs.Config.{Configuration, token_of}
+use Rattle.keep_spec.specs.Times.{expiry_at}
 use Rattle.keep_spec.specs.declared.config.Device.{Device}
 use Rattle.keep_spec.specs.declared.token.TokenId.{TokenId}
 use Rattle.keep_spec.specs.declared.unverified.Verified.{Verified}
@@ -43,7 +44,7 @@ writable c = filter (λ d. not (is_read_only c d)) devices
 -- SIGNED LOCATORS
 -- the second of a time in nanoseconds, and the lifetime of signatures later; what passes 32 bits counts as their last number
 abbrev pub expiry_of : Configuration → ℕ → ℕ
-expiry_of c mtime = min (mtime / 1000000000 + c.ttl) (2 ^ 32 - 1)
+expiry_of c mtime = expiry_at c.ttl mtime
 
 -- the permission hint of a digest for a token
 abbrev pub permission_hint : Configuration → List ℕ → List ℕ → ℕ → List ℕ

@@ -1,5 +1,5 @@
 -- The configuration: what each field must be, and what a text says. This is the project's own format.
-use Rattle.std.specs.Prelude.{ℕ, zero, suc, ◌+◌, ◌-◌, ◌*◌, ◌^◌, ◌==◌, ◌&&◌, nat_le, nat_lt, List, [], ◌∷◌, length, map, filter, slice_index_or, Bool, true, not, IsTrue, Option, Some, is_some, bytes_eq, ok_or, option_and_then, option_map, Result, Ok, Err, if◌then◌else◌, codes}
+use Rattle.std.specs.Prelude.{ℕ, zero, suc, ◌^◌, ◌==◌, ◌&&◌, nat_le, nat_lt, List, [], ◌∷◌, length, map, filter, slice_index_or, Bool, true, not, IsTrue, Option, Some, is_some, bytes_eq, ok_or, option_and_then, option_map, Result, Ok, Err, if◌then◌else◌, codes}
 use Rattle.std.specs.List.{list_all, list_any, position_from}
 use Rattle.serde_json.specs.Data.{Data}
 use Rattle.serde_json.specs.Find.{get, as_str, as_object}
@@ -251,18 +251,3 @@ firsts (x ∷ xs) = x ∷ filter (λ y. not (x == y)) (firsts xs)
 -- the devices of a server's mounts in order, each once
 abbrev pub devices_of : Configuration → ℕ → List ℕ
 devices_of c server = firsts (map (λ m. m.device) (filter (λ m. m.server == server) c.mounts))
-
--- twice the skew, in nanoseconds: by so much may two readings of a steady history be out of order
-abbrev pub guard : Configuration → ℕ
-guard c = 2 * c.skew * 10 ^ 9
-
--- how long a block must be kept after the reading at which it was signed: the lifetime of a signature and the guard, in nanoseconds
-abbrev pub grace : Configuration → ℕ
-grace c = c.ttl * 10 ^ 9 + guard c
-
-abbrev pub trash_life_nanos : Configuration → ℕ
-trash_life_nanos c = c.trash_life * 10 ^ 9
-
--- a round that starts at a reading may trash what is older than this
-abbrev pub threshold : Configuration → ℕ → ℕ
-threshold c start = start - grace c

@@ -14,4 +14,5 @@ pub mod Results
 pub mod Sign
 pub mod SignedText
 pub mod Stripped
+pub mod Times
 pub mod Uuid

@@ -1,10 +1,11 @@
 -- Signatures of locators. HMAC is that of RFC 2104 over SHA-1; the text that is signed is this project's rule.
-use Rattle.std.specs.Prelude.{ℕ, ◌-◌, ◌*◌, ◌==◌, nat_lt, List, [], ◌∷◌, ◌++◌, length, map, replicate, bit_xor, if◌then◌else◌, Option, Some, None, Result, Ok, Err}
+use Rattle.std.specs.Prelude.{ℕ, ◌-◌, ◌==◌, nat_lt, List, [], ◌∷◌, ◌++◌, length, map, replicate, bit_xor, if◌then◌else◌, Option, Some, None, Result, Ok, Err}
 use Rattle.std.specs.Int.{w32, to_be_bytes}
 use Rattle.std.specs.Str.{bytes_eq}
 use Rattle.sha1.specs.Sha1.{sha1}
 use Rattle.hex.specs.Hex.{encode_lower}
 use Rattle.keep_spec.specs.Locator.{digest, permission}
+use Rattle.keep_spec.specs.Times.{nanos}
 use Rattle.keep_spec.specs.declared.permission.Permission.{Permission}
 use Rattle.keep_spec.specs.declared.unverified.Verified.{Verified}
 use Rattle.keep_spec.specs.declared.unverified.Unverified.{Unverified}
@@ -45,7 +46,7 @@ signature_of digest token expiry ttl secret = encode_lower (hmac secret (signed_
 abbrev pub judged : Option Permission → List ℕ → List ℕ → ℕ → List ℕ → ℕ → Result Verified Unverified
 judged None digest token ttl secret reading = Err Missing
 judged (Some p) digest token ttl secret reading =
-    if nat_lt (p.expiry * 1000000000) reading then Err (Expired p.expiry)
+    if nat_lt (nanos p.expiry) reading then Err (Expired p.expiry)
     else if bytes_eq p.signature (signature_of digest token p.expiry ttl secret) then Ok (record { digest = digest; expiry = p.expiry })
     else Err Invalid
 

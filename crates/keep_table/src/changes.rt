@@ -4,25 +4,26 @@ ghost use Rattle.std.specs.List.{find};
 ghost use Rattle.std.specs.Option.{option_map_or};
 ghost use Rattle.std.specs.Vec.{vec_capacity};
 ghost use Rattle.keep_event.specs.Table as machine;
+ghost use Rattle.keep_spec.specs.Times.{guard, grace};
 
 use keep_event::{Collection, NewRecord, Record, ScanRow, Standing, TableAnswer, TableRules};
-use keep_spec::{Items, NoMemory, TokenId};
+use keep_spec::{Items, NoMemory, TokenId, grace_nanos, guard_nanos};
 use std::alloc::Global;
 
 // Twice the skew, in nanoseconds.
 pub(crate) fn guard(rules: &TableRules) -> u64
-    ensures guard { result ≡ machine.guard rules.now }
+    ensures guard { result ≡ guard rules.now.skew }
     ensures bound { result ≤ 2 * (2 ^ 32 - 1) * 10 ^ 9 }
 {
-    2 * u64::from(rules.skew) * 1_000_000_000
+    guard_nanos(rules.skew)
 }
 
 // The lifetime of a signature, and twice the skew, in nanoseconds.
 pub(crate) fn grace(rules: &TableRules) -> u64
-    ensures grace { result ≡ machine.grace rules.now }
+    ensures grace { result ≡ grace rules.now.ttl rules.now.skew }
     ensures bound { result ≤ 3 * (2 ^ 32 - 1) * 10 ^ 9 }
 {
-    u64::from(rules.ttl) * 1_000_000_000 + guard(rules)
+    grace_nanos(rules.ttl, rules.skew)
 }
 
 pub(crate) fn push_in_room<X: Drop>(items: &mut Vec<X>, item: X)
