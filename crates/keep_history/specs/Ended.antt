@@ -1,7 +1,7 @@
 -- How a run ended, where its source, its sink and its store tell.
 use Rattle.std.specs.Prelude.{◌≡◌, ◌++◌, ℕ, List, take, Option, Some}
 use Rattle.keep_spec.specs.declared.status.Status.{Status}
-use Rattle.keep_spec.specs.declared.status.Status.TheVariants.{Done, BadWords, BadConfig, BadLine, WriteFault, ReadFault, NoMemory, LineTooLong, InputTooLong, NotEmpty, StoreFault}
+use Rattle.keep_spec.specs.declared.status.Status.TheVariants.{Done, BadWords, BadConfig, BadLine, WriteFault, ReadFault, NoMemory, LineTooLong, InputTooLong, NotEmpty, StoreFault, AuditFault, DoorFault, PortFault}
 use Rattle.keep_event.specs.Device.{State}
 use Rattle.keep_history.specs.Faults.{AreFaults}
 use Rattle.keep_history.specs.Run.{End, run_of, IsMoment}
@@ -30,6 +30,9 @@ HowEnded (LineTooLong n) start end Moment state t out = IsExact (LineTooLong n) 
 HowEnded InputTooLong start end Moment state t out = IsExact InputTooLong end state t out
 HowEnded (NotEmpty device) start end Moment state t out = IsExact (NotEmpty device) end state t out
 HowEnded (StoreFault device) start end Moment state t out = (device ≡ 0) × (state ≡ Some start) × (out ≡ Some t)
+HowEnded (AuditFault fault) start end Moment state t out = ⊥
+HowEnded DoorFault start end Moment state t out = ⊥
+HowEnded PortFault start end Moment state t out = ⊥
 
 -- The run of the whole input ended with this status. The events of some numbers failed, and each raised the count of the store's faults.
 pub record Ran (stores : ℕ) (start : State) (bytes t : List ℕ) (status : Status) (state : Option State) (before now : ℕ) (out : Option (List ℕ)) : Type 0 where

@@ -38,6 +38,9 @@ how-same (St.LineTooLong n) start end end' M N state t out e f h = rw e at h
 how-same St.InputTooLong start end end' M N state t out e f h = rw e at h
 how-same (St.NotEmpty device) start end end' M N state t out e f h = rw e at h
 how-same (St.StoreFault device) start end end' M N state t out e f h = h
+how-same (St.AuditFault fault) start end end' M N state t out e f h = h
+how-same St.DoorFault start end end' M N state t out e f h = h
+how-same St.PortFault start end end' M N state t out e f h = h
 
 pub first_keeps : {S : Type 0} (held : S → Option (List (Name × Stored))) (noted : S → Option ℕ) (stores : List S) (start : State) → first_state held noted stores ≡ Some start → FirstKeeps held noted stores start
 first_keeps held noted [] start e = tt
@@ -127,6 +130,9 @@ module _ (stores : ℕ) (start : State) (bytes t : List ℕ) where
   ran-refused before now taken' left' line St.InputTooLong le gv r = absurd r
   ran-refused before now taken' left' line (St.NotEmpty device) le gv r = absurd r
   ran-refused before now taken' left' line (St.StoreFault device) le gv r = absurd r
+  ran-refused before now taken' left' line (St.AuditFault fault) le gv r = absurd r
+  ran-refused before now taken' left' line St.DoorFault le gv r = absurd r
+  ran-refused before now taken' left' line St.PortFault le gv r = absurd r
 
   pub ran-store : (before now taken' : ℕ) (left' : Option (List ℕ)) (line : Line) (config : Configuration) (status : Status) (held : Option (List (Name × Stored))) (noted : Option ℕ) (out' : Option (List ℕ)) → (gv : Given 0 taken' bytes line.text left') → config_for stores line.text ≡ Ok config → (r : StoreRan config taken' gv.rest' start t status held noted before now out') → Ran stores start bytes t status (Some r.left) before now out'
   ran-store before now taken' left' line config status held noted out' gv c r =

@@ -267,6 +267,9 @@ module _ (config : Configuration) (taken0 number0 : ℕ) (bytes : List ℕ) (s0 
   by_status taken number taken' n before mid now left left' scene scene' state' out out' line St.InputTooLong g gv num later done = absurd done
   by_status taken number taken' n before mid now left left' scene scene' state' out out' line (St.NotEmpty d) g gv num later done = absurd done
   by_status taken number taken' n before mid now left left' scene scene' state' out out' line (St.StoreFault d) g gv num later done = absurd done
+  by_status taken number taken' n before mid now left left' scene scene' state' out out' line (St.AuditFault fault) g gv num later done = absurd done
+  by_status taken number taken' n before mid now left left' scene scene' state' out out' line St.DoorFault g gv num later done = absurd done
+  by_status taken number taken' n before mid now left left' scene scene' state' out out' line St.PortFault g gv num later done = absurd done
 
   pub ended-line : (taken number taken' n before mid now : ℕ) (left left' : Option (List ℕ)) (scene scene' : Option Scene) (state' : Option State) (out out' : Option (List ℕ)) (line : Line) (status : Status) → Going config taken0 number0 bytes s0 t taken number left scene before mid out → IsNext taken number left (Ok (Some line)) taken' left' → n ≡ number + 1 → mid ≤ now → BothTold scene out (λ scene t. IsLineDone config line.text n scene scene' state' mid now t out' (Err status)) → Ended config taken0 number0 bytes s0 t status state' before now out'
   ended-line taken number taken' n before mid now left left' scene scene' state' out out' line status g next num later done =

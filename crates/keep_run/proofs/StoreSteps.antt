@@ -153,6 +153,9 @@ module _ (config : Configuration) (taken : ℕ) (bytes : List ℕ) (start : Stat
   how-left St.InputTooLong end M state out h = (end.effect.scene.state, h.1)
   how-left (St.NotEmpty device) end M state out h = (end.effect.scene.state, h.1)
   how-left (St.StoreFault device) end M state out h = (start, h.1)
+  how-left (St.AuditFault fault) end M state out h = absurd h
+  how-left St.DoorFault end M state out h = absurd h
+  how-left St.PortFault end M state out h = absurd h
 
   earlier : (count first before now : ℕ) (failed : List ℕ) → first ≤ before → AreFaults 0 count before now failed → AreFaults 0 count first now failed
   earlier count first before now failed le f = record { among = f.among; few = λ small. let q = f.few small in omega arith }

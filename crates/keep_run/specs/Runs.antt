@@ -3,7 +3,7 @@ use Rattle.std.specs.Prelude.{◌≡◌, ◌++◌, ℕ, List, [], take, Option, 
 use Rattle.keep_spec.specs.Lines.{cut}
 use Rattle.keep_spec.specs.Config.{Configuration}
 use Rattle.keep_spec.specs.declared.status.Status.{Status}
-use Rattle.keep_spec.specs.declared.status.Status.TheVariants.{Done, BadWords, BadConfig, BadLine, WriteFault, ReadFault, NoMemory, LineTooLong, InputTooLong, NotEmpty, StoreFault}
+use Rattle.keep_spec.specs.declared.status.Status.TheVariants.{Done, BadWords, BadConfig, BadLine, WriteFault, ReadFault, NoMemory, LineTooLong, InputTooLong, NotEmpty, StoreFault, AuditFault, DoorFault, PortFault}
 use Rattle.keep_base.specs.declared.lines.LineError.{LineError}
 use Rattle.keep_base.specs.declared.lines.LineError.TheVariants as E
 use Rattle.keep_event.specs.Device.{State}
@@ -36,6 +36,9 @@ IsLineDone config text number scene after state before now t taken (Err (LineToo
 IsLineDone config text number scene after state before now t taken (Err InputTooLong) = ⊥
 IsLineDone config text number scene after state before now t taken (Err (NotEmpty device)) = ⊥
 IsLineDone config text number scene after state before now t taken (Err (StoreFault device)) = ⊥
+IsLineDone config text number scene after state before now t taken (Err (AuditFault fault)) = ⊥
+IsLineDone config text number scene after state before now t taken (Err DoorFault) = ⊥
+IsLineDone config text number scene after state before now t taken (Err PortFault) = ⊥
 
 abbrev pub AllTold : {A B C : Type 0} → Option A → Option B → Option C → (A → B → C → Type 0) → Type 0
 AllTold None b c P = ⊤
@@ -87,3 +90,6 @@ IsOfLine (Err (LineTooLong n)) = ⊥
 IsOfLine (Err InputTooLong) = ⊥
 IsOfLine (Err (NotEmpty device)) = ⊥
 IsOfLine (Err (StoreFault device)) = ⊥
+IsOfLine (Err (AuditFault fault)) = ⊥
+IsOfLine (Err DoorFault) = ⊥
+IsOfLine (Err PortFault) = ⊥

@@ -4,7 +4,7 @@ use Rattle.keep_spec.specs.Config.{Configuration}
 use Rattle.keep_spec.specs.Lines.{cut}
 use Rattle.keep_spec.specs.declared.config.Field.{Field}
 use Rattle.keep_spec.specs.declared.status.Status.{Status}
-use Rattle.keep_spec.specs.declared.status.Status.TheVariants.{Done, BadWords, BadConfig, BadLine, WriteFault, ReadFault, NoMemory, LineTooLong, InputTooLong, NotEmpty, StoreFault}
+use Rattle.keep_spec.specs.declared.status.Status.TheVariants.{Done, BadWords, BadConfig, BadLine, WriteFault, ReadFault, NoMemory, LineTooLong, InputTooLong, NotEmpty, StoreFault, AuditFault, DoorFault, PortFault}
 use Rattle.keep_event.specs.Device.{State, initial}
 use Rattle.keep_event.specs.declared.names.Name.{Name}
 use Rattle.keep_event.specs.declared.names.Stored.{Stored}
@@ -70,3 +70,6 @@ IsConfigRefusal (LineTooLong n) c = ⊥
 IsConfigRefusal InputTooLong c = ⊥
 IsConfigRefusal (NotEmpty device) c = ⊥
 IsConfigRefusal (StoreFault device) c = ⊥
+IsConfigRefusal (AuditFault fault) c = ⊥
+IsConfigRefusal DoorFault c = ⊥
+IsConfigRefusal PortFault c = ⊥

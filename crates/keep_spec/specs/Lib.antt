@@ -13,6 +13,7 @@ pub mod Refusals
 pub mod Results
 pub mod Sign
 pub mod SignedText
+pub mod Status
 pub mod Stripped
 pub mod Times
 pub mod Uuid

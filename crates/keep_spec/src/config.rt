@@ -1,5 +1,6 @@
 // The parts of a configuration, and the names of its fields.
 use crate::{Bytes, Items, Uuid};
+use std::fmt;
 
 /// A device: how many bytes its replicas may have together, and whether it takes no change of them.
 #[derive(Clone, Copy, Debug, PartialEq, Eq)]
@@ -68,5 +69,16 @@ impl Field {
             Field::ScanLimit => "scan_limit",
             Field::Unknown => "Unknown",
         }
+    }
+}
+
+impl fmt::Display for Field {
+    ghost use Rattle.std.specs.Prelude.{Some};
+    ghost use Rattle.keep_spec.specs.Config.{field_name};
+
+    ghost output = { λ field. Some (field_name field) };
+
+    fn fmt<W: fmt::Write>(&self, f: &mut fmt::Formatter<W>) -> fmt::Result {
+        f.write_str(self.name())
     }
 }

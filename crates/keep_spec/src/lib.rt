@@ -27,7 +27,7 @@ pub use memory::NoMemory;
 pub use number::{NUMBER_DIGITS, NumberFront, number_front, read_number};
 pub use permission::Permission;
 pub use portable::{PORTABLE_MAX, Portable};
-pub use status::Status;
+pub use status::{AuditFault, Status};
 pub use times::{NANOS_PER_SECOND, READING_END, grace_nanos, guard_nanos};
 pub use token::TokenId;
 pub use unverified::{Unverified, Verified};

@@ -3,87 +3,57 @@
 
 use keep_base::{ReaderSource, WriterSink};
 use keep_run::run_call;
-use keep_spec::{Field, Status};
+use keep_spec::{NoMemory, Status};
 use keep_store::MemoryStore;
-use std::io;
+use std::alloc::Global;
 use std::process::ExitCode;
+use std::{env, io};
 
 // How many devices a run can have.
 const STORES: usize = 64;
 
-fn code_of(status: Status) -> u8 {
-    match status {
-        Status::Done => 0,
-        Status::BadWords => 2,
-        Status::BadConfig { .. } => 3,
-        Status::BadLine { .. } => 4,
-        Status::WriteFault => 5,
-        Status::ReadFault => 6,
-        Status::NoMemory => 7,
-        Status::LineTooLong { .. } => 8,
-        Status::InputTooLong => 9,
-        Status::NotEmpty { .. } => 10,
-        Status::StoreFault { .. } => 11,
-    }
-}
-
-// A field as the configuration names it; the two that are no fields as they are.
-fn name_of(field: Field) -> &'static str {
-    match field {
-        Field::Line => "Line",
-        Field::Cluster => "cluster",
-        Field::Ttl => "ttl",
-        Field::Skew => "skew",
-        Field::Secret => "secret",
-        Field::SystemToken => "system_token",
-        Field::Tokens => "tokens",
-        Field::Devices => "devices",
-        Field::Servers => "servers",
-        Field::Mounts => "mounts",
-        Field::Versions => "versions",
-        Field::TrashLife => "trash_life",
-        Field::IndexDigits => "index_digits",
-        Field::ScanLimit => "scan_limit",
-        Field::Unknown => "Unknown",
-    }
-}
-
-fn tell(rt: &HostRuntime, status: Status) -> io::Result<()> {
-    match status {
-        Status::Done => Ok(()),
-        Status::BadWords => eprintln!(rt; "keepd: bad words"),
-        Status::BadConfig { field } => {
-            let name = name_of(field);
-            eprintln!(rt; "keepd: bad configuration: {name}")
+// The words after the program's name. One that isn't UTF-8 is no word of a command.
+fn words_of(rt: &HostRuntime) -> Result<Vec<String>, Status> {
+    let args = match env::args(rt) {
+        Ok(args) => args,
+        Err(error) if error.kind() == io::ErrorKind::InvalidData => return Err(Status::BadWords),
+        Err(_) => return Err(Status::NoMemory),
+    };
+    let mut words = Vec::new(rt.alloc());
+    for word in args.skip(1) {
+        if words.push(word).is_err() {
+            return Err(Status::NoMemory);
         }
-        Status::BadLine { number } => eprintln!(rt; "keepd: bad line {number}"),
-        Status::WriteFault => eprintln!(rt; "keepd: write fault"),
-        Status::ReadFault => eprintln!(rt; "keepd: read fault"),
-        Status::NoMemory => eprintln!(rt; "keepd: no memory"),
-        Status::LineTooLong { number } => eprintln!(rt; "keepd: line too long: {number}"),
-        Status::InputTooLong => eprintln!(rt; "keepd: input too long"),
-        Status::NotEmpty { device } => eprintln!(rt; "keepd: device not empty: {device}"),
-        Status::StoreFault { device } => eprintln!(rt; "keepd: store fault: {device}"),
     }
+    Ok(words)
 }
 
-fn main(rt: HostRuntime) -> io::Result<ExitCode> {
-    let alloc = rt.alloc();
-    let mut words = Vec::new(alloc);
-    for word in std::env::args(&rt)?.skip(1) {
-        words
-            .push(word)
-            .map_err(|_| io::Error::from(io::ErrorKind::OutOfMemory))?;
-    }
+fn empty_stores(alloc: Global) -> Result<Vec<MemoryStore>, NoMemory> {
     let mut stores = Vec::new(alloc);
     for _ in 0..STORES {
-        stores
-            .push(MemoryStore::new(alloc, Vec::new(alloc)))
-            .map_err(|_| io::Error::from(io::ErrorKind::OutOfMemory))?;
+        stores.push(MemoryStore::new(alloc, Vec::new(alloc)))?;
     }
+    Ok(stores)
+}
+
+fn run(rt: &HostRuntime) -> Status {
+    let alloc = rt.alloc();
+    let words = match words_of(rt) {
+        Ok(words) => words,
+        Err(status) => return status,
+    };
+    let Ok(mut stores) = empty_stores(alloc) else {
+        return Status::NoMemory;
+    };
     let mut source = ReaderSource::new(rt.reader());
-    let mut sink = WriterSink::new(io::writer(&rt));
-    let status = run_call(alloc, words.as_slice(), &mut source, &mut sink, &mut stores);
-    let _ = tell(&rt, status);
-    Ok(ExitCode::from(code_of(status)))
+    let mut sink = WriterSink::new(io::writer(rt));
+    run_call(alloc, words.as_slice(), &mut source, &mut sink, &mut stores)
+}
+
+fn main(rt: HostRuntime) -> ExitCode {
+    let status = run(&rt);
+    if status != Status::Done {
+        let _ = eprintln!(rt; "keepd: {status}");
+    }
+    ExitCode::from(status.exit_status())
 }
