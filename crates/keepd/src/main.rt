@@ -31,7 +31,10 @@ fn words_of(rt: &HostRuntime) -> Result<Vec<String>, Status> {
 fn empty_stores(alloc: Global) -> Result<Vec<MemoryStore>, NoMemory> {
     let mut stores = Vec::new(alloc);
     for _ in 0..STORES {
-        stores.push(MemoryStore::new(alloc, Vec::new(alloc)))?;
+        let store = MemoryStore::new(alloc, Vec::new(alloc));
+        if stores.push(store).is_err() {
+            return Err(NoMemory);
+        }
     }
     Ok(stores)
 }
