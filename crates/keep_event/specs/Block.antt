@@ -1,4 +1,4 @@
--- The block of some bytes.
+-- Blocks: which bytes may be one. Their greatest size is that of Arvados, 64 MiB.
 use Rattle.std.specs.Prelude.{ℕ, List, length, nat_lt, Result, Ok, Err, if◌then◌else◌}
 use Rattle.keep_event.specs.declared.block.TooLong.{TooLong}
 

@@ -1,5 +1,5 @@
--- The device machine: one definition for each query, over plain lists. `reading` is the clock's, in nanoseconds since 1970.
--- A definition gives the answer and the state afterwards; the cases are tried in order, and what isn't said to change stays.
+-- The device machine: a reply to each query, over plain lists. `reading` is the clock's, in nanoseconds since 1970. This is the project's own rule.
+-- A reply is the answer and the state afterwards; cases are tried in order, and what isn't said to change stays.
 use Rattle.std.specs.Prelude.{ℕ, ◌+◌, ◌-◌, max, ◌==◌, nat_lt, List, [], ◌∷◌, map, filter, length, sum_by, Bool, true, false, ◌&&◌, if◌then◌else◌, Option, None, Some, is_some, is_none, unwrap_or, take}
 use Rattle.std.specs.Str.{bytes_eq}
 use Rattle.std.specs.List.{find, last_or}
@@ -54,7 +54,7 @@ replica_of digest s = store.find (replica digest) s.held
 abbrev pub used : List (Name × Stored) → ℕ
 used es = sum_by (λ e. length e.1.bytes) es
 
--- a line that changes nothing on a device that is read only
+-- on a read-only device the answer is ReadOnly and nothing changes
 abbrev pub writable : DeviceRules → State → Reply → Reply
 writable rules s reply = if rules.read_only then stays ReadOnly s else reply
 
@@ -127,7 +127,7 @@ accept round lists s =
     then record { answer = Accepted (length lists.trash) (length lists.pull); state = record { held = s.held; round = s.round; trash = lists.trash; pull = lists.pull } }
     else stays (Stale s.round) s
 
--- on a page stand the replicas of which the digits begin so
+-- a page has the replicas whose hexadecimal digits begin with the prefix
 abbrev pub entry_of : Name × Stored → Entry
 entry_of e = record { digest = e.0.digest; mtime = e.1.mtime; size = length e.1.bytes }
 
@@ -235,7 +235,7 @@ step rules reading (queries.Untrash digest) s = untrash rules digest reading s
 step rules reading queries.EmptyNext s = empty_next rules reading s
 step rules reading queries.Restart s = restart s
 
--- a query that a fault of the store may keep from its line
+-- whether a query may be answered StoreFault
 abbrev pub may_fault : DeviceQuery → Bool
 may_fault (queries.CompareTouch block token) = true
 may_fault (queries.Write block token) = true

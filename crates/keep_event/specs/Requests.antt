@@ -1,4 +1,4 @@
--- The table's line of each query as it is asked: by a token's text, and a save or an update with all that is tested of its request. This is the project's own rule.
+-- The table machine's reply to each query as it is asked: by a token's text, and a save or an update with all that is tested of its request. This is the project's own rule.
 use Rattle.std.specs.Prelude.{ℕ, ◌+◌, ◌&&◌, nat_le, Bool, List, [], ◌∷◌, length, Option, None, Some, option_map, Result, Ok, Err, if◌then◌else◌}
 use Rattle.std.specs.List.{flat_map}
 use Rattle.std.specs.Option.{option_or, option_map_or}
@@ -57,7 +57,7 @@ abbrev pub unsigned_because : Configuration → List ℕ → ℕ → List ℕ �
 unsigned_because c token reading locator =
     if is_empty_block locator then None else cause_of (verdict locator token c.ttl c.secret reading)
 
--- the first locator for which there is a cause, where so many stand before them
+-- the refusal of the first locator for which there is a cause; `index` is the number of the list's first locator in the text
 abbrev pub first_unsigned : (List ℕ → Option Unverified) → ℕ → List (List ℕ) → Option TableAnswer
 first_unsigned why index [] = None
 first_unsigned why index (locator ∷ locators) = option_or (option_map (Unsigned index) (why locator)) (first_unsigned why (index + 1) locators)
@@ -83,7 +83,7 @@ refusal_of_request c reading request =
 
 -- ---- what is stored of a good request
 
--- a digest put in its place in an ascending list, where it isn't there yet
+-- an ascending list with a digest inserted, unless it has it
 abbrev pub inserted : List ℕ → List (List ℕ) → List (List ℕ)
 inserted x [] = x ∷ []
 inserted x (y ∷ ys) = match_ordering (slice_cmp nat_cmp x y) (x ∷ y ∷ ys) (y ∷ ys) (y ∷ inserted x ys)
@@ -97,7 +97,7 @@ ascending (x ∷ xs) = inserted x (ascending xs)
 abbrev pub digests_of : List ℕ → List (List ℕ)
 digests_of text = option_map_or (λ m. ascending (named m)) (manifest_of text) []
 
--- the text goes without its permission hints
+-- the record of a good request; its text is stored without permission hints
 abbrev pub made_of : SaveRequest → NewRecord
 made_of request = record {
   text = with_locators unsigned request.text;

@@ -1,4 +1,4 @@
--- What a store holds: names with what is kept under them, ascending by name.
+-- What a store holds: names with what stands under each, ascending by name and each name once; and what its calls make of that list. This is the project's own rule.
 use Rattle.std.specs.Prelude.{◌≡◌, ℕ, List, [], ◌∷◌, ◌++◌, length, Option, None, Some, option_map, map}
 use Rattle.std.specs.declared.cmp.Ordering.{Ordering}
 use Rattle.std.specs.Ordering.{nat_cmp, ordering_then, match_ordering}
@@ -49,16 +49,16 @@ without n es = (cut n es).front ++ (cut n es).back
 abbrev pub stored : ℕ → List ℕ → Stored
 stored mtime bytes = record { mtime = mtime; bytes = bytes }
 
--- what is there with another time
+-- the same bytes with another time
 abbrev pub with_time : ℕ → Stored → Stored
 with_time mtime s = record { mtime = mtime; bytes = s.bytes }
 
--- what a name has becomes f of it; nothing, where nothing has the name
+-- what stands under a name, through f; all stays where the store doesn't hold the name
 abbrev pub change : {X : Type 0} → (X → X) → Name → List (Name × X) → Option X → List (Name × X)
 change f n es None = es
 change f n es (Some x) = put n (f x) es
 
--- what a name has becomes f of it under another name, in the place of what has that
+-- what stands under a name, through f, goes under another name and replaces what stood there
 abbrev pub move : {X : Type 0} → (X → X) → Name → Name → List (Name × X) → Option X → List (Name × X)
 move f from to es None = es
 move f from to es (Some x) = put to (f x) (without from es)
@@ -69,19 +69,19 @@ touch n mtime es o = change (with_time mtime) n es o
 abbrev pub rename : Name → Name → ℕ → List (Name × Stored) → Option Stored → List (Name × Stored)
 rename from to mtime es o = move (with_time mtime) from to es o
 
--- what a caller learns of a name
+-- the time and the size of what stands under a name
 abbrev pub size_of : Stored → Metadata
 size_of s = record { mtime = s.mtime; size = length s.bytes }
 
 abbrev pub held_of : Name × Stored → Held
 held_of e = record { name = e.0; mtime = e.1.mtime; size = length e.1.bytes }
 
--- the entries above a name
+-- the entries above a name, or all of them
 abbrev pub above : {X : Type 0} → Option Name → List (Name × X) → List (Name × X)
 above None es = es
 above (Some n) es = (cut n es).back
 
--- what is told stays, or becomes f of it; what isn't told, isn't told afterwards
+-- a meaning that is told changes by f, or stays; one that isn't told isn't told afterwards
 abbrev pub Becomes : {A : Type 0} → Option A → Option A → (A → A) → Type 0
 Becomes old new f = new ≡ option_map f old
 
@@ -91,7 +91,7 @@ Stays old new = new ≡ old
 abbrev pub with_mtime : ℕ → Metadata → Metadata
 with_mtime mtime s = record { mtime = mtime; size = s.size }
 
--- the same as a device remembers it
+-- an entry as a device remembers it: the name with its time and size
 abbrev pub sized : Name × Stored → Name × Metadata
 sized e = (e.0, size_of e.1)
 

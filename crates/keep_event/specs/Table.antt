@@ -81,7 +81,7 @@ is_in_trash reading x = option_map_or (λ at. nat_le at reading) x.trash_at fals
 abbrev pub is_gone : ℕ → Collection → Bool
 is_gone reading x = option_map_or (λ at. nat_lt at reading) x.delete_at false
 
--- the collection, where it is there and the token's
+-- the collection, where it exists and is the token's
 abbrev pub owned : TokenId → ℕ → State → Result Collection TableAnswer
 owned token number s = do
   x ← ok_or (collection_of number s) NoSuch
@@ -183,7 +183,7 @@ expiry_of rules reading x =
 abbrev pub row_answer : TableRules → ℕ → Record → Collection → TableAnswer
 row_answer rules reading r x = Row r.collection r.version (expiry_of rules reading x) r.made.want x.trash_at r.made.text
 
--- a version that isn't there is refused before the token is looked at
+-- NoSuch, also for a version that can't be read, comes before NotOwner
 abbrev pub row_of_version : TableRules → ℕ → TokenId → ℕ → Option ℕ → State → Result TableAnswer TableAnswer
 row_of_version rules reading token number version s = do
   r ← ok_or (find (is_readable number version) s.records) NoSuch
@@ -203,6 +203,7 @@ with_times number trash_at delete_at x =
 abbrev pub with_collections : List Collection → State → State
 with_collections xs s = record { records = s.records; collections = xs; numbers = s.numbers; revisions = s.revisions; rounds = s.rounds }
 
+-- not before each signature that a read has issued has expired, nor before what was asked
 abbrev pub deleted_at : TableRules → ℕ → ℕ → ℕ → ℕ
 deleted_at rules reading trash_at asked = max asked (max (reading + grace rules.ttl rules.skew) (trash_at + guard rules.skew))
 
@@ -254,6 +255,7 @@ row_of r = record { revision = r.revision; digests = r.made.named; want = r.made
 abbrev pub rows_above : ℕ → List Record → List ScanRow
 rows_above after rs = map row_of (filter (λ r. nat_lt after r.revision) rs)
 
+-- a page, and whether no further record is left
 unfoldable pub scan : ℕ → ℕ → State → Reply
 scan after limit s = stays (Rows (take limit (rows_above after s.records)) (nat_le (length (rows_above after s.records)) limit)) s
 

@@ -1,4 +1,4 @@
-// A block and its digest.
+// Blocks, each hashed once.
 ghost use Rattle.std.specs.Prelude.{◌≡◌, ◌≤◌, length, IfOk};
 ghost use Rattle.md5.specs.Md5.{md5};
 
@@ -7,14 +7,14 @@ use md5::Md5;
 use std::alloc::Global;
 use std::marker::Model;
 
-/// At most 67,108,864 bytes with their MD5, seen as the bytes.
+/// At most 67,108,864 bytes, hashed when the block is made: its digest is their MD5 (RFC 1321). Contracts see the bytes.
 #[derive(Drop, Debug)]
 pub struct Block {
     digest: Digest,
     bytes: Bytes,
 }
 
-/// More bytes than a block may have.
+/// The bytes that `Block::of` was given, where they are more than a block may have.
 #[derive(Drop, Debug)]
 pub struct TooLong {
     pub bytes: Bytes,
@@ -34,10 +34,10 @@ impl Model for Block {
 impl Block {
     ghost use Rattle.keep_event.specs.Block.{block_of};
 
-    /// The most bytes that a block has.
+    /// The most bytes that a block has: 64 MiB.
     pub const MAX_SIZE: usize = 67_108_864;
 
-    /// Hashes the bytes, once for all. Bytes that are too long come back, unhashed.
+    /// Makes a block of the bytes and hashes them. Exactly above 67,108,864 bytes it returns them in `TooLong`, unhashed. Takes no memory.
     pub fn of(bytes: Bytes) -> Result<Block, TooLong>
         ensures { result ≡ block_of bytes }
     {
@@ -48,20 +48,22 @@ impl Block {
         Ok(Block { digest, bytes })
     }
 
-    /// The MD5 of the bytes, which was taken when the block was made.
+    /// Returns the MD5 of the bytes, which was taken when the block was made.
     pub fn digest(&self) -> Digest
         ensures { result ≡ md5 self.now }
     {
         self.digest
     }
 
+    /// Returns the bytes, at most 67,108,864.
     pub fn bytes(&self) -> &[u8]
         ensures value { result.now ≡ self.now }
-        ensures small { length self.now ≤ 67108864 }
+        ensures size_bounded { length self.now ≤ 67108864 }
     {
         self.bytes.as_slice()
     }
 
+    /// Returns the bytes, without a copy.
     pub fn into_bytes(self) -> Bytes
         ensures { result ≡ self }
     {
@@ -69,7 +71,7 @@ impl Block {
         bytes
     }
 
-    /// The same block again, without hashing it again.
+    /// Copies the block without hashing it again.
     pub fn duplicate(&self, alloc: Global) -> Result<Block, NoMemory>
         ensures { IfOk result (λ b. b ≡ self.now) }
     {

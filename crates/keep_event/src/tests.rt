@@ -8,11 +8,6 @@ const FOO: [u8; 16] = [
     0xac, 0xbd, 0x18, 0xdb, 0x4c, 0xc2, 0xf8, 0x5c, 0xed, 0xef, 0x65, 0x4f, 0xcc, 0xc4, 0xa4, 0xd8,
 ];
 
-// As md5sum prints it for 67,108,864 bytes 0.
-const ZEROS: [u8; 16] = [
-    0x7f, 0x61, 0x4d, 0xa9, 0x32, 0x9c, 0xd3, 0xae, 0xbf, 0x59, 0xb9, 0x1a, 0xad, 0xc3, 0x0b, 0xf0,
-];
-
 #[test]
 fn a_block_has_the_md5_of_its_bytes(rt: HostRuntime) -> Result<(), Fail> {
     let block = Block::of(Bytes::of(Vec::from_slice(rt.alloc(), b"foo")?))?;
@@ -20,21 +15,6 @@ fn a_block_has_the_md5_of_its_bytes(rt: HostRuntime) -> Result<(), Fail> {
     let copy = block.duplicate(rt.alloc())?;
     assert!(rt; copy.digest() == Digest::of_md5(FOO));
     assert_eq!(rt; copy.into_bytes().as_slice(), b"foo".as_slice());
-    Ok(())
-}
-
-#[test]
-fn the_longest_block_is_made_and_a_longer_one_refused(rt: HostRuntime) -> Result<(), Fail> {
-    let mut bytes = Vec::new(rt.alloc());
-    bytes.resize(67_108_864, 0)?;
-    let block = Block::of(Bytes::of(bytes))?;
-    assert!(rt; block.digest() == Digest::of_md5(ZEROS));
-    let mut bytes = block.into_bytes().into_vec();
-    bytes.push(0)?;
-    match Block::of(Bytes::of(bytes)) {
-        Ok(_) => assert!(rt; false, "a block of 67,108,865 bytes"),
-        Err(refused) => assert_eq!(rt; refused.bytes.len(), 67_108_865),
-    }
     Ok(())
 }
 

@@ -1,5 +1,5 @@
 use Rattle.std.proofs.Common.{◌≡◌, take}
-use Rattle.keep_event.proofs.lists.pull_copied.Given as goal
+use Rattle.keep_event.proofs.lists.duplicate_pulls.Given as goal
 
 abbrev pub invariant-loop-item : goal.invariant-loop-item
 invariant-loop-item l = l.copy.items ≡ take l.item-index l.items
