@@ -122,13 +122,14 @@ fn set_trash(
 fn restore(
     table: &mut Table,
     config: &Config,
+    reading: u64,
     token: &[u8],
     collection: u64,
 ) -> Result<TableAnswer, NoMemory>
     ensures { IsLine (requests.known config.now token.now table.old.state (λ t. machine.restore t collection table.old.state)) table.old table.new result }
 {
     match config.token(token) {
-        Some(token) => table.restore(token, collection),
+        Some(token) => table.restore(reading, token, collection),
         None => Ok(TableAnswer::UnknownToken),
     }
 }
@@ -174,7 +175,7 @@ fn answer_about_collection(
             *delete_at,
         ),
         TableQuery::Restore { token, collection } => {
-            restore(table, config, token.as_slice(), *collection)
+            restore(table, config, reading, token.as_slice(), *collection)
         }
         _ => unreachable!(),
     }

@@ -1,4 +1,4 @@
--- What contracts see of a table, and what each of its calls does.
+-- What contracts see of a table (its rules and the table machine's state), the invariant of its records and collections, and what a call does.
 use Rattle.std.specs.Prelude.{◌≡◌, ◌≤◌, ◌<◌, ⊤, ℕ, Bool, true, false, List, [], ◌∷◌, map, count_by, Result, Ok, Err}
 use Rattle.std.specs.List.{AllByRecursion}
 use Rattle.keep_spec.specs.declared.memory.NoMemory.{NoMemory}
@@ -9,7 +9,7 @@ use Rattle.keep_event.specs.Table.{State, Reply, is_current_of}
 use Rattle.keep_event.specs.declared.table.Record.{Record}
 use Rattle.keep_event.specs.declared.table.Collection.{Collection}
 
--- numbers that rise, each above the one before it and the first above `low`
+-- each number is above the one before it, and the first above `low`
 abbrev pub RisesAbove : ℕ → List ℕ → Type 0
 RisesAbove low [] = ⊤
 RisesAbove low (n ∷ ns) = (low < n) × RisesAbove n ns
@@ -40,7 +40,7 @@ pub record IsReply (reply : Reply) (old new : Contents) (answer : TableAnswer) :
   pub changed : new.state ≡ reply.state
   pub rules : new.rules ≡ old.rules
 
--- the same, or memory was refused and nothing has changed
+-- what a call does: its reply, or memory was refused and nothing has changed, neither the rules nor the state
 abbrev pub IsLine : Reply → Contents → Contents → Result TableAnswer NoMemory → Type 0
 IsLine reply old new (Ok answer) = IsReply reply old new answer
 IsLine reply old new (Err e) = new ≡ old
@@ -49,7 +49,7 @@ abbrev pub is_updated : TableAnswer → Bool
 is_updated (Updated number version portable) = true
 is_updated other = false
 
--- rows, whose revisions rise from above `after` on
+-- an answer with rows, whose revisions rise from above `after`
 abbrev pub AreRowsAbove : ℕ → TableAnswer → Type 0
 AreRowsAbove after (Rows rows last) = RisesAbove after (map (λ r. r.revision) rows)
 AreRowsAbove after other = ⊥

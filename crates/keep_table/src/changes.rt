@@ -69,7 +69,7 @@ pub(crate) fn collection_of(collections: &[Collection], number: u64) -> Option<C
     None
 }
 
-/// Sets both times of a collection.
+/// Sets both times of the collection with this number.
 pub(crate) fn set_times(
     collections: &mut Vec<Collection>,
     number: u64,
@@ -128,7 +128,7 @@ pub(crate) fn is_due(reading: u64, standing: &Standing) -> bool
     }
 }
 
-/// How many versions of a collection aren't due.
+/// Returns how many versions of a collection aren't due at a reading.
 pub(crate) fn versions_held(records: &[Record], reading: u64, number: u64) -> u64
     ensures { result ≡ count_by (machine.is_held reading number) records.now }
 {
@@ -162,7 +162,7 @@ pub(crate) fn is_owner(token: TokenId, collection: &Collection) -> bool
     token.number == 0 || token.number == collection.owner.number
 }
 
-/// The current record of a collection becomes a version.
+/// Makes the current record of a collection a version.
 pub(crate) fn supersede(records: &mut Vec<Record>, number: u64, standing: Standing)
     ensures after { records.new.items ≡ map (machine.superseded number standing) records.old.items }
     ensures len { vec_len records.new ≡ vec_len records.old }
@@ -187,7 +187,7 @@ fn supersede_one(row: &mut Record, number: u64, standing: Standing)
     }
 }
 
-/// The version of a collection's current record, 0 where there is none.
+/// Returns the version of a collection's current record, or 0 where it has none.
 pub(crate) fn current_version(records: &[Record], number: u64) -> u64
     ensures { result ≡ option_map_or (λ r. r.version) (find (machine.is_current_of number) records.now) 0 }
 {
@@ -205,7 +205,7 @@ fn is_due_of(reading: u64, number: u64, row: &Record) -> bool
     row.collection == number && is_due(reading, &row.standing)
 }
 
-/// Drops the versions of a collection that are due.
+/// Removes the versions of a collection that are due at a reading.
 pub(crate) fn drop_due(records: &mut Vec<Record>, reading: u64, number: u64)
     ensures after { records.new.items ≡ filter (λ r. not (machine.is_due_of reading number r)) records.old.items }
     ensures len { vec_len records.new ≤ vec_len records.old }
@@ -223,7 +223,7 @@ fn is_gone(reading: u64, collection: &Collection) -> bool
     }
 }
 
-/// How many collections go.
+/// Returns how many collections a sweep at a reading removes.
 pub(crate) fn count_gone(collections: &[Collection], reading: u64) -> u64
     ensures { result ≡ count_by (machine.is_gone reading) collections.now }
 {
@@ -263,7 +263,7 @@ fn outlasts(reading: u64, collections: &[Collection], row: &Record) -> bool
     !goes(reading, collections, row) && !is_due(reading, &row.standing)
 }
 
-/// How many versions are due whose collections stay.
+/// Returns how many versions are due at a reading whose collections stay.
 pub(crate) fn count_swept(records: &[Record], collections: &[Collection], reading: u64) -> u64
     ensures { result ≡ count_by (machine.is_swept reading collections.now) records.now }
 {
@@ -282,7 +282,7 @@ pub(crate) fn drop_swept(records: &mut Vec<Record>, collections: &[Collection], 
     records.retain(|row| outlasts(reading, collections, row));
 }
 
-/// What becomes of a record that is superseded at a reading.
+/// Returns the standing of a record that is superseded at a reading.
 pub(crate) fn kept_until(rules: &TableRules, reading: u64, preserve: bool) -> Standing
     requires { reading < 4 * 10 ^ 18 }
     ensures { result ≡ machine.kept_until rules.now reading preserve }
@@ -319,7 +319,7 @@ fn is_preserved(standing: &Standing) -> bool
     }
 }
 
-/// A collection's current record, or the version that is asked for where it can be read.
+/// Returns a collection's current record, or the version asked for where it can be read.
 pub(crate) fn version_of(records: &[Record], number: u64, version: Option<u64>) -> Option<&Record>
     ensures { option_map (λ r. r.now) result ≡ find (machine.is_readable number version) records.now }
 {
@@ -364,7 +364,7 @@ fn expiry_of(rules: &TableRules, reading: u64, collection: &Collection) -> Optio
     }
 }
 
-/// What a read answers of a record of a collection.
+/// Returns what a read answers of a record of a collection.
 pub(crate) fn row_answer(
     alloc: Global,
     rules: &TableRules,
@@ -397,7 +397,7 @@ fn row_of(alloc: Global, row: &Record) -> Result<ScanRow, NoMemory>
     })
 }
 
-/// The first rows above a revision, and whether there are no more.
+/// Returns the first rows above a revision, at most `limit` of them, and whether there are no more.
 pub(crate) fn rows_after(
     alloc: Global,
     records: &[Record],

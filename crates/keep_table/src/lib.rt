@@ -1,10 +1,8 @@
-//! The table of collections: their records, over plain lists.
+//! The table of collections: their records over plain lists, each call one line of the table machine.
 #![tactic(auto)]
 
 mod changes;
 mod table;
-#[cfg(test)]
-mod tests;
 
 pub use keep_event::{
     Collection, NewRecord, Record, SaveRequest, ScanRow, Standing, TableAnswer, TableRules,

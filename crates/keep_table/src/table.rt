@@ -5,7 +5,7 @@ use keep_spec::{NoMemory, TokenId};
 use std::alloc::Global;
 use std::marker::Model;
 
-/// The table of collections, with the rules of the configuration that it was made with.
+/// The table of collections, with the rules that it was made with. Contracts see the rules, the records in the order of their revisions, the collections in that of their numbers, and how many numbers, revisions and rounds were drawn. A refusal, and a call that is refused memory, changes nothing.
 #[derive(Drop, Debug)]
 pub struct Table {
     alloc: Global,
@@ -35,7 +35,7 @@ impl Table {
     ghost use Rattle.std.specs.Bool.{OnTrue};
     ghost use Rattle.keep_table.specs.Contents.{IsReply, IsLine, is_updated, AreRowsAbove};
 
-    /// An empty table.
+    /// Makes an empty table. Takes no memory.
     pub fn new(alloc: Global, rules: TableRules) -> Table
         ensures rules { result.rules ≡ rules }
         ensures empty { result.state ≡ machine.empty }
@@ -51,7 +51,7 @@ impl Table {
         }
     }
 
-    /// Whether each counter is below 10^15 − 1.
+    /// Returns whether each counter is below 10^15 − 1, as the calls that draw a number require.
     pub fn has_room(&self) -> bool
         ensures { result ≡ machine.has_room self.now.state }
     {
@@ -59,7 +59,7 @@ impl Table {
         self.numbers < most && self.revisions < most && self.rounds < most
     }
 
-    /// Begins a round: the next number.
+    /// Draws the number of the next round, from 1, and returns it as Round with the reading (nanoseconds since 1970). Takes no memory, and so never fails.
     #[tactic(auto, unfolding(keep_event::specs::Table::begin_round))]
     pub fn begin_round(&mut self, reading: u64) -> TableAnswer
         requires { IsTrue (machine.has_room self.old.state) }
@@ -72,7 +72,7 @@ impl Table {
         }
     }
 
-    /// Stores a new collection of one current record.
+    /// Makes a collection of the owner's with one current record, and returns Saved.
     #[tactic(auto, unfolding(keep_event::specs::Table::create))]
     pub fn create(&mut self, owner: TokenId, made: NewRecord) -> Result<TableAnswer, NoMemory>
         requires room { IsTrue (machine.has_room self.old.state) }
@@ -99,7 +99,7 @@ impl Table {
         })
     }
 
-    // The collection, where it is there and the token's.
+    // The collection, where it exists and is the token's.
     fn owned(&self, token: TokenId, number: u64) -> Result<Collection, TableAnswer>
         ensures { result ≡ machine.owned token number self.now.state }
     {
@@ -113,7 +113,7 @@ impl Table {
         }
     }
 
-    /// Sets the times from which a collection is in the trash and goes, both readings. The second is moved so far that no signature that reads it is valid then.
+    /// Sets the times from which a collection is in the trash and from which a sweep removes it (nanoseconds since 1970), and returns TrashSet. `delete_at` is raised, if needed, past the expiry of every signature that a read has issued. Refuses with NoSuch or NotOwner.
     #[tactic(auto, unfolding(keep_event::specs::Table::set_trash))]
     pub fn set_trash(
         &mut self,
@@ -145,9 +145,14 @@ impl Table {
         })
     }
 
-    /// Takes both times of a collection away.
+    /// Takes both times of a collection away, and returns Restored. Refuses with NoSuch or NotOwner. The reading has no part in the answer.
     #[tactic(auto, unfolding(keep_event::specs::Table::restore))]
-    pub fn restore(&mut self, token: TokenId, collection: u64) -> Result<TableAnswer, NoMemory>
+    pub fn restore(
+        &mut self,
+        _reading: u64,
+        token: TokenId,
+        collection: u64,
+    ) -> Result<TableAnswer, NoMemory>
         ensures { IsLine (machine.restore token collection self.old.state) self.old self.new result }
     {
         if let Err(refusal) = self.owned(token, collection) {
@@ -157,7 +162,7 @@ impl Table {
         Ok(TableAnswer::Restored)
     }
 
-    // The collection, where it is there, the token's and not in the trash.
+    // The collection, where it exists, is the token's and isn't in the trash.
     fn updatable(
         &self,
         reading: u64,
@@ -176,7 +181,7 @@ impl Table {
         }
     }
 
-    /// The refusal that an update would meet for its collection: NoSuch, NotOwner or InTrash.
+    /// Returns the refusal that an update would meet for its collection at the reading (nanoseconds since 1970): NoSuch, NotOwner or InTrash, the first that holds. Takes no memory.
     pub fn may_update(&self, reading: u64, token: TokenId, collection: u64) -> Option<TableAnswer>
         ensures { result ≡ machine.refusal_of (machine.updatable reading token collection self.now.state) }
     {
@@ -186,7 +191,7 @@ impl Table {
         }
     }
 
-    /// Drops the due versions, and the collections whose time has come with all their records.
+    /// Removes the versions that are due at the reading (nanoseconds since 1970), and the collections whose `delete_at` is below it with all their records, and returns Swept.
     #[tactic(auto, unfolding(keep_event::specs::Table::sweep))]
     pub fn sweep(&mut self, reading: u64) -> Result<TableAnswer, NoMemory>
         ensures { IsLine (machine.sweep reading self.old.state) self.old self.new result }
@@ -201,7 +206,7 @@ impl Table {
         })
     }
 
-    /// Makes a new current record of a collection; the one before becomes a version, and its due versions go.
+    /// Makes a new current record of a collection, and returns Updated: the one before becomes a version, kept until the reading (nanoseconds since 1970) and the grace, or preserved where `preserve` asks for it; the collection's versions that are due go first. Refuses with NoSuch, NotOwner, InTrash or TooManyVersions, the first that holds.
     #[tactic(auto, unfolding(keep_event::specs::Table::update))]
     pub fn update(
         &mut self,
@@ -215,8 +220,8 @@ impl Table {
         requires reading { reading < 4 * 10 ^ 18 }
         ensures line { IsLine (machine.update self.old.rules reading token collection made preserve self.old.state) self.old self.new result }
 
-        // An update that is made leaves at most so many versions.
-        ensures few { IfOk result (λ answer. OnTrue (is_updated answer) (machine.versions_held reading collection self.new.state ≤ self.new.rules.versions)) }
+        // An update that is made leaves no more versions than the rules allow.
+        ensures versions_bounded { IfOk result (λ answer. OnTrue (is_updated answer) (machine.versions_held reading collection self.new.state ≤ self.new.rules.versions)) }
     {
         if let Err(refusal) = self.updatable(reading, token, collection) {
             return Ok(refusal);
@@ -243,7 +248,7 @@ impl Table {
         })
     }
 
-    /// Reads a collection's current record, or a version that is preserved, with the expiry of a signed read. A reading is below 4·10^18.
+    /// Reads a collection's current record, or the version asked for where it is current or preserved, and returns Row with the expiry of the signatures that its reader gets. Refuses with NoSuch or NotOwner. Changes nothing.
     #[tactic(auto, unfolding(keep_event::specs::Table::read))]
     pub fn read(
         &mut self,
@@ -278,12 +283,12 @@ impl Table {
         changes::row_answer(self.alloc, &self.rules, reading, row, &found)
     }
 
-    /// The records above a revision, in the order of their revisions, at most `limit` of them, and whether none is left.
+    /// Returns Rows: the records whose revision is above `after`, ascending by revision, at most `limit` of them, and whether no further one is left. The round has no part in the answer. Changes nothing.
     #[tactic(auto, unfolding(keep_event::specs::Table::scan))]
     pub fn scan(&mut self, _round: u64, after: u64, limit: u32) -> Result<TableAnswer, NoMemory>
         requires { 0 < limit }
         ensures line { IsLine (machine.scan after limit self.old.state) self.old self.new result }
-        ensures rows { IfOk result (AreRowsAbove after) }
+        ensures rows_rise { IfOk result (AreRowsAbove after) }
     {
         let (rows, last) = changes::rows_after(self.alloc, &self.records, after, limit as usize)?;
         Ok(TableAnswer::Rows { rows, last })

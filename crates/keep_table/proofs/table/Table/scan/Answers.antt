@@ -1,7 +1,7 @@
 use Rattle.keep_table.proofs.Orderly.{scan-rises}
 use Rattle.keep_table.proofs.table.Table.scan.Goals as goal
 
-pub returns-clause-rows : goal.returns-clause-rows
-returns-clause-rows c =
+pub returns-clause-rows_rise : goal.returns-clause-rows_rise
+returns-clause-rows_rise c =
     rw (c.in_ok-rows.ensures.rows, c.deref.ensures.value)
     (scan-rises c.self.inside.numbers c.self.inside.revisions c.args.after c.args.limit c.self.inside.records.items c.self.invariant.0)

@@ -42,9 +42,9 @@ returns-clause-line c =
       rules = refl;
     })
 
--- fewer than so many versions were held, and the one record that was current joins them
-pub returns-clause-few : goal.returns-clause-few
-returns-clause-few c =
+-- fewer versions were held than the rules allow, and the one record that was current joins them
+pub returns-clause-versions_bounded : goal.returns-clause-versions_bounded
+returns-clause-versions_bounded c =
     let few : count_by (is_held c.args.reading c.args.collection) c.self.inside.records.items < c.self.inside.rules.versions =
     rw (← c.deref.ensures.value, ← c.versions_held-held.ensures, ← c.from.ensures) c.if-held-from.false in
     rw (c.push_in_room.ensures, c.new_record-row.ensures, c.supersede.ensures.after, c.drop_due.ensures.after, c.reserve.ensures.items)
