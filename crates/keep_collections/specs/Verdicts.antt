@@ -1,4 +1,4 @@
--- What is found of a request, and which queries may be asked.
+-- When a request is good, in the words of its user, and which queries may be asked.
 use Rattle.std.specs.Prelude.{◌≡◌, ◌<◌, ◌≤◌, ◌*◌, ◌^◌, ◌⊎◌, ⊤, ℕ, Bool, true, false, List, Option, None, Some, IsTrue, IsSome, IsOk}
 use Rattle.std.specs.List.{AllByRecursion}
 use Rattle.keep_spec.specs.Config.{Configuration, token_of}
@@ -37,6 +37,10 @@ IsAsked (queries.Restore token collection) = ⊤
 IsAsked queries.Sweep = ⊤
 IsAsked (queries.Scan round after limit) = 0 < limit
 
+abbrev pub begins_round : TableQuery → Bool
+begins_round queries.BeginRound = true
+begins_round other = false
+
 -- a query that names a collection and stores no record
 abbrev pub IsAboutCollection : TableQuery → Type 0
 IsAboutCollection (queries.Read token collection version) = ⊤
@@ -53,7 +57,7 @@ abbrev pub IsClaimed : Option (List ℕ) → Portable → Type 0
 IsClaimed None computed = ⊤
 IsClaimed (Some claimed) computed = claimed ≡ portable_text computed
 
--- what a request must be: of a known token, with a manifest for its text, each locator signed at the reading, no claimed hash but the right one, and 1 to 255 wanted copies
+-- a request is good where its token is known, its text is a manifest, each locator is signed at the reading, no hash is claimed but the right one, and 1 to 255 copies are wanted
 pub record IsGood (c : Configuration) (reading : ℕ) (request : SaveRequest) : Type 0 where
   pub token : IsSome (token_of c request.token)
   pub manifest : bad request.text ≡ None
@@ -65,7 +69,7 @@ abbrev pub is_saved : TableAnswer → Bool
 is_saved (Saved number version portable) = true
 is_saved other = false
 
--- the collection is there, the token's or asked for by the system token, not in the trash, and has room for a version
+-- the collection exists, is the token's or the token is the system's, isn't in the trash, and has room for a version
 pub record IsUpdatable (c : Configuration) (reading collection : ℕ) (token : TokenId) (s : State) : Type 0 where
   pub found : Collection
   pub there : collection_of collection s ≡ Some found
@@ -73,7 +77,7 @@ pub record IsUpdatable (c : Configuration) (reading collection : ℕ) (token : T
   pub outside : is_in_trash reading found ≡ false
   pub room : versions_held reading collection s < c.versions
 
--- a good request for such a collection
+-- a request is good for a collection where it is good and its token may update the collection
 pub record IsGoodUpdate (c : Configuration) (reading collection : ℕ) (request : SaveRequest) (s : State) : Type 0 where
   pub good : IsGood c reading request
   pub token : TokenId

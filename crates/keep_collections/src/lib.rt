@@ -5,6 +5,8 @@ mod queries;
 mod request;
 mod row;
 mod signed;
+#[cfg(test)]
+mod tests;
 mod uuid;
 
 pub use keep_event::{SaveRequest, TableAnswer, TableQuery};

@@ -1,10 +1,11 @@
-// The table's queries as they are asked.
-ghost use Rattle.std.specs.Prelude.{◌≡◌, ◌↔◌, ◌<◌, ◌*◌, ◌^◌, IsTrue, IfOk};
+// The table's queries as they are asked: by a token's text, a save or an update with all that is tested of its request.
+ghost use Rattle.std.specs.Prelude.{◌≡◌, ◌↔◌, ◌<◌, ◌*◌, ◌^◌, IsTrue, IsOk, IfOk};
+ghost use Rattle.std.specs.Bool.{OnTrue};
 ghost use Rattle.keep_event.specs.Table.{has_room};
 ghost use Rattle.keep_event.specs.Table as machine;
 ghost use Rattle.keep_event.specs.Requests as requests;
 ghost use Rattle.keep_table.specs.Contents.{IsLine, is_updated};
-ghost use Rattle.keep_collections.specs.Verdicts.{IsAboutCollection, IsAsked, IsGood, IsGoodUpdate, is_saved};
+ghost use Rattle.keep_collections.specs.Verdicts.{IsAboutCollection, IsAsked, IsGood, IsGoodUpdate, begins_round, is_saved};
 
 use crate::request::{Verdict, judged};
 use keep_config::Config;
@@ -13,7 +14,7 @@ use keep_spec::NoMemory;
 use keep_table::Table;
 use std::alloc::Global;
 
-/// What a table takes from a configuration.
+/// Returns the rules that a table made with this configuration has.
 pub fn rules_of(config: &Config) -> TableRules
     ensures { result ≡ requests.rules_of config.now }
 {
@@ -25,7 +26,9 @@ pub fn rules_of(config: &Config) -> TableRules
     }
 }
 
-/// Saves a collection at a reading (nanoseconds since 1970). Refused are, in this order, an unknown token, a text that isn't a manifest, a locator without a valid signature, a claimed hash that isn't the text's, and a number of copies outside 1 to 255. The text is stored without its permission hints.
+/// Saves a collection at a reading (nanoseconds since 1970), and returns Saved. Refuses with UnknownToken, BadManifest, Unsigned, WrongHash or BadWant, the first that holds. The text is stored without its permission hints.
+///
+/// A refusal changes nothing, nor does NoMemory, the only error.
 #[tactic(auto, unfolding(keep_event::specs::Requests::save))]
 pub fn save(
     alloc: Global,
@@ -39,7 +42,7 @@ pub fn save(
     ensures line { IsLine (requests.save config.now reading request.now table.old.state) table.old table.new result }
 
     // It is saved exactly where the request is good, want of memory aside.
-    ensures saved { IfOk result (λ answer. IsTrue (is_saved answer) ↔ IsGood config.now reading request.now) }
+    ensures saved_where_good { IfOk result (λ answer. IsTrue (is_saved answer) ↔ IsGood config.now reading request.now) }
 {
     let Some(owner) = config.token(request.token.as_slice()) else {
         return Ok(TableAnswer::UnknownToken);
@@ -50,7 +53,9 @@ pub fn save(
     }
 }
 
-/// Updates a collection at a reading (nanoseconds since 1970). Refused are, in this order, an unknown token, a collection that isn't there, isn't the token's or is in the trash, what a save refuses, and one version too many. The record before becomes a version, preserved as long as the collection where `preserve` asks so.
+/// Updates a collection at a reading (nanoseconds since 1970), and returns Updated. Refuses with UnknownToken, NoSuch, NotOwner, InTrash, BadManifest, Unsigned, WrongHash, BadWant or TooManyVersions, the first that holds. The record before becomes a version, preserved as long as the collection where `preserve` asks for it.
+///
+/// A refusal changes nothing, nor does NoMemory, the only error.
 #[tactic(auto, unfolding(keep_event::specs::Requests::update_line))]
 pub fn update(
     alloc: Global,
@@ -66,8 +71,8 @@ pub fn update(
     requires reading { reading < 4 * 10 ^ 18 }
     ensures line { IsLine (requests.update_line config.now reading collection preserve request.now table.old.state) table.old table.new result }
 
-    // It is made exactly where the request is good for the collection, want of memory aside.
-    ensures updated { IfOk result (λ answer. IsTrue (is_updated answer) ↔ IsGoodUpdate config.now reading collection request.now table.old.state) }
+    // It is updated exactly where the request is good for the collection, want of memory aside.
+    ensures updated_where_good { IfOk result (λ answer. IsTrue (is_updated answer) ↔ IsGoodUpdate config.now reading collection request.now table.old.state) }
 {
     let Some(token) = config.token(request.token.as_slice()) else {
         return Ok(TableAnswer::UnknownToken);
@@ -181,7 +186,9 @@ fn answer_about_collection(
     }
 }
 
-/// What the table answers to a query at a reading (nanoseconds since 1970).
+/// Asks the table a query at a reading (nanoseconds since 1970), and returns its answer.
+///
+/// A refusal changes nothing, nor does NoMemory, the only error, which BeginRound never returns.
 pub fn answer(
     alloc: Global,
     table: &mut Table,
@@ -193,7 +200,8 @@ pub fn answer(
     requires rules { table.old.rules ≡ requests.rules_of config.now }
     requires reading { reading < 4 * 10 ^ 18 }
     requires asked { IsAsked query.now }
-    ensures { IsLine (requests.table_line config.now reading query.now table.old.state) table.old table.new result }
+    ensures line { IsLine (requests.table_line config.now reading query.now table.old.state) table.old table.new result }
+    ensures round_needs_no_memory { OnTrue (begins_round query.now) (IsOk result) }
 {
     match query {
         TableQuery::BeginRound => Ok(table.begin_round(reading)),

@@ -19,14 +19,14 @@ use keep_sign::unsigned_manifest;
 use keep_spec::{Bytes, Items, Manifest, NoMemory, Portable};
 use std::alloc::Global;
 
-/// What is found of a request: what is stored of it, or the first refusal.
+/// What a save or an update makes of a request: the record to store, or the first refusal.
 #[derive(Drop)]
 pub(crate) enum Verdict {
     Good(NewRecord),
     Refused(TableAnswer),
 }
 
-// A claimed hash is the text of the computed one.
+// Refuses a claimed hash that isn't the text of the computed one.
 fn wrong_hash(computed: &Portable, claimed: &Option<Bytes>) -> Option<TableAnswer>
     ensures { result ≡ requests.wrong_hash computed.now claimed.now }
 {
@@ -43,7 +43,7 @@ fn wrong_hash(computed: &Portable, claimed: &Option<Bytes>) -> Option<TableAnswe
     }
 }
 
-// From 1 to 255 copies may be wanted.
+// Refuses a wanted number of copies outside 1 to 255.
 fn bad_want(want: u64) -> Option<TableAnswer>
     ensures { result ≡ requests.bad_want want }
 {
@@ -54,7 +54,7 @@ fn bad_want(want: u64) -> Option<TableAnswer>
     }
 }
 
-// What is said against a request whose text is a manifest: a signature, then the claimed hash, then the wanted copies.
+// The first refusal of a request whose text is a manifest: by a signature, by the claimed hash, by the wanted copies.
 fn refusal_of(
     alloc: Global,
     config: &Config,
@@ -126,7 +126,7 @@ fn made_of(
     })
 }
 
-/// What is found of a request at a reading (nanoseconds since 1970): its text, its signatures, the claimed hash and the wanted copies are tested in this order.
+/// Tests a request at a reading (nanoseconds since 1970): its text, its signatures, the claimed hash and the wanted copies, in this order.
 pub(crate) fn judged(
     alloc: Global,
     config: &Config,

@@ -9,8 +9,8 @@ use Rattle.keep_collections.specs.declared.request.Verdict.TheVariants.{Good, Re
 use Rattle.keep_collections.proofs.Changes.{good-updated, line-updated, request-updated}
 use Rattle.keep_collections.proofs.queries.update.Goals as goal
 
-pub returns-in-Good-clause-updated : goal.returns-in-Good-clause-updated
-returns-in-Good-clause-updated c =
+pub returns-in-Good-clause-updated_where_good : goal.returns-in-Good-clause-updated_where_good
+returns-in-Good-clause-updated_where_good c =
     let s = c.args.table.now.state in
     let found : IsVerdict (requests.refusal_of_request c.args.config.now c.args.reading c.args.request.now) (requests.made_of c.args.request.now) (Good c.in-Good.made) =
     subst (IsVerdict (requests.refusal_of_request c.args.config.now c.args.reading c.args.request.now) (requests.made_of c.args.request.now)) c.in-Good.is c.in_ok-made.ensures in
@@ -22,8 +22,8 @@ returns-in-Good-clause-updated c =
     rw c.requires.rules (good-updated c.args.config.now c.args.reading c.args.collection c.args.request.now s c.in-Some.token c.in-Good.made c.args.preserve known free found.0) in
     line-updated (machine.update c.args.table.now.rules c.args.reading c.in-Some.token c.args.collection c.in-Good.made c.args.preserve s) _ _ c.update.result _ c.update.ensures.line exact
 
-pub returns-in-Refused-clause-updated : goal.returns-in-Refused-clause-updated
-returns-in-Refused-clause-updated c =
+pub returns-in-Refused-clause-updated_where_good : goal.returns-in-Refused-clause-updated_where_good
+returns-in-Refused-clause-updated_where_good c =
     let found : IsVerdict (requests.refusal_of_request c.args.config.now c.args.reading c.args.request.now) (requests.made_of c.args.request.now) (Refused c.in-Refused.refusal) =
     subst (IsVerdict (requests.refusal_of_request c.args.config.now c.args.reading c.args.request.now) (requests.made_of c.args.request.now)) c.in-Refused.is c.in_ok-made.ensures in
     request-updated c.args.config.now c.args.reading c.args.collection c.args.request.now c.args.table.now.state c.in-Refused.refusal found
