@@ -11,7 +11,7 @@ use Rattle.keep_spec.specs.declared.manifest.Manifest.{Manifest}
 use Rattle.keep_spec.specs.declared.manifest.Stream.{Stream}
 use Rattle.keep_event.specs.Requests.{locators_in}
 use Rattle.keep_manifest.specs.Good.{is_good_stream}
-use Rattle.keep_manifest.proofs.WellFormed.{good_is}
+use Rattle.keep_manifest.proofs.GoodManifests.{good_is}
 
 stream-locators : (s : Stream) → is_good_stream s ≡ true → list_all is_locator s.locators ≡ true
 stream-locators s e = (and_parts _ _ (and_parts _ _ e).0).1

@@ -1,4 +1,6 @@
 -- The parts of a permission hint.
+-- Laws: `permission_parts`, `permission_read`, `found_only`, `found_second`, `sixteen-suc`, `sixteen-le`, `hex-take-more`, `all_at`,
+-- `lower-value`, `lower-letter`.
 use Rattle.std.proofs.Common.{◌≡◌, ℕ, ◌+◌, ◌*◌, ◌^◌, ◌<◌, ◌≤◌, Bool, true, ◌==◌, ◌&&◌, nat_eq, List, [], ◌∷◌, ◌++◌, map, length, take, drop, get_or, Option, Some, None, if◌then◌else◌, refl, sym, ap, ◌∙◌, arith}
 use Rattle.std.specs.Prelude.{codes, filter, is_some}
 use Rattle.std.specs.Option.{option_map, option_to_list}

@@ -1,6 +1,7 @@
-pub mod Fronts
-pub mod Grammar
+pub mod GrammarStates
 pub mod HintText
-pub mod Joined
-pub mod Machine
-pub mod TextRead
+pub mod JoinedParts
+pub mod Lists
+pub mod LongestPrefix
+pub mod ParsedPrefix
+pub mod ParserStates

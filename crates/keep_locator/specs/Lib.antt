@@ -1,2 +1,4 @@
-pub mod Places
-pub mod Reading
+-- What public clauses cite.
+pub mod Parsing
+-- What the clauses inside cite.
+pub mod HintStates

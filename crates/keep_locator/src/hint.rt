@@ -1,4 +1,4 @@
-// The hints of a locator, one behind another.
+// The text of a locator's hints.
 ghost use Rattle.std.specs.Prelude.{◌≡◌, ◌+◌, ◌<◌, ◌≤◌, ◌==◌, [], ◌∷◌, true, length, drop, if◌then◌else◌, MatchOption, IfSome};
 ghost use Rattle.std.specs.Char.{digit_value};
 ghost use Rattle.std.specs.List.{list_all, position_or_len};
@@ -8,10 +8,11 @@ ghost use Rattle.keep_spec.specs.Locator.{cut_before_plus, is_permission_hint, p
 
 use keep_spec::{Permission, is_lower_digit};
 
-// `+A`, 40 digits, `@` and 8 digits.
+// In bytes: `+A`, 40 digits, `@` and 8 digits.
 const PERMISSION_LEN: usize = 51;
 
-/// Of a text of hints, one behind another, the first, with its plus, and the text behind it; none of an empty text.
+/// Splits a text of hints, as `Locator::hint_text` returns it, after its first hint: that hint with its plus, and the rest. `None` for
+/// an empty text.
 pub fn first_hint(text: &[u8]) -> Option<(&[u8], &[u8])>
     ensures hints { MatchOption result (cut_before_plus text.now ≡ [])
         (λ p. cut_before_plus text.now ≡ p.0.now ∷ cut_before_plus p.1.now) }
@@ -23,7 +24,7 @@ pub fn first_hint(text: &[u8]) -> Option<(&[u8], &[u8])>
     Some(text.split_at(hint_len(text)))
 }
 
-// How many bytes stand before the next plus, the first byte aside.
+// The length of the first hint in bytes: up to the next plus, not counting the first byte.
 fn hint_len(text: &[u8]) -> usize
     requires { 0 < length text.now }
     ensures place { result ≡ position_or_len (λ c. c == 43) (drop 1 text.now) + 1 }
@@ -37,7 +38,7 @@ fn hint_len(text: &[u8]) -> usize
     text.len()
 }
 
-// What a hint says where it is `+A`, 40 lower-case hexadecimal digits, `@` and 8 more.
+// The signature and expiry of a permission hint; `None` for another hint.
 pub fn read_permission(hint: &[u8]) -> Option<Permission>
     ensures { result
         ≡ (if is_permission_hint hint.now then Some (permission_of hint.now) else None) }
@@ -53,7 +54,8 @@ pub fn read_permission(hint: &[u8]) -> Option<Permission>
     })
 }
 
-/// Whether a hint is `+A`, 40 lower-case hexadecimal digits, `@` and 8 more.
+/// Whether a hint is a permission hint: `+A`, 40 lower-case hexadecimal digits, `@`, 8 more, and no other byte (Arvados). Another hint
+/// that begins with `A` is an ordinary hint.
 #[tactic(auto, unfolding(keep_spec::specs::Locator::is_permission_hint))]
 pub fn is_permission_hint(hint: &[u8]) -> bool
     ensures { result ≡ is_permission_hint hint.now }
@@ -71,7 +73,7 @@ fn are_lower_digits(text: &[u8]) -> bool
     text.iter().all(|byte| is_lower_digit(*byte))
 }
 
-// The number that at most 8 hexadecimal digits write.
+// The value of at most 8 hexadecimal digits.
 fn hex_number(digits: &[u8]) -> u32
     requires few { length digits.now ≤ 8 }
     requires digits { list_all is_lower_digit digits.now ≡ true }

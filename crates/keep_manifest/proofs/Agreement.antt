@@ -1,4 +1,5 @@
 -- What is read is what the definitions say: the value and the first refusal, of which just one is there.
+-- Laws: `text_agrees`, `text_read`, `text_bad`, `refused_or_read`.
 use Rattle.std.proofs.Common.{◌≡◌, ℕ, suc, ◌+◌, eqb, Bool, true, false, ◌&&◌, cond, List, [], ◌∷◌, ◌++◌, length, drop, Option, Some, None, option_map, option_and_then, Result, Ok, Err, refl, ap, sym, subst, ◌∙◌, append_assoc, append-nil, zero-add, arith, ◌↔◌, IsSome}
 use Rattle.std.proofs.Math.Dec.{eqb-suc-zero}
 use Rattle.std.proofs.lemmas.Bool.{lt-ltb, false≢true}
@@ -18,9 +19,9 @@ use Rattle.keep_spec.specs.declared.manifest.Refusal.{Refusal}
 use Rattle.keep_spec.specs.declared.manifest.Kind.TheVariants.{BadStream, BadLocator}
 use Rattle.keep_spec.specs.Results.{◌>>=◌}
 use Rattle.keep_manifest.specs.Tokens.{lines_of}
-use Rattle.keep_manifest.specs.Reading.{Said, nothing, with_segment, refuse, judged, segment_at, token_at, tokens_at, whole, named_at, line_at, pieces_at}
+use Rattle.keep_manifest.specs.Parsing.{Parts, no_parts, with_segment, refuse, judged, segment_at, token_at, tokens_at, whole, named_at, line_at, pieces_at}
 
--- a reading gives the value, or the refusal
+-- parsing returns the value, or the refusal
 abbrev pub Agrees : {X : Type 0} → Result X Refusal → Option X → Option Refusal → Type 0
 Agrees (Ok x) value refusal = (value ≡ Some x) × (refusal ≡ None)
 Agrees (Err f) value refusal = (value ≡ None) × (refusal ≡ Some f)
@@ -28,7 +29,7 @@ Agrees (Err f) value refusal = (value ≡ None) × (refusal ≡ Some f)
 agrees_as : {X : Type 0} (r r' : Result X Refusal) (v v' : Option X) (b b' : Option Refusal) → r ≡ r' → v ≡ v' → b ≡ b' → Agrees r' v' b' → Agrees r v b
 agrees_as r r' v v' b b' e f g h = rw (e, f, g) h
 
--- one reading after another
+-- one parse after another
 then_agrees : {X Y : Type 0} (r : Result X Refusal) (v : Option X) (b c : Option Refusal) (f : X → Result Y Refusal) (g : X → Option Y) → Agrees r v b → ((x : X) → Agrees (f x) (g x) c) → Agrees (r >>= f) (option_and_then g v) (option_or b c)
 then_agrees (Ok x) v b c f g h k = rw (h.0, h.1) (k x)
 then_agrees (Err e) v b c f g h k = rw (h.0, h.1) (refl, refl)
@@ -66,17 +67,17 @@ segments_agree at total (token ∷ tokens) =
 
 -- the tokens of a line that follow its locators add their segments
 
-abbrev saying : List (List ℕ) → List Segment → Said
+abbrev saying : List (List ℕ) → List Segment → Parts
 saying locators segments = record { locators = locators; segments = segments }
 
-abbrev adding : List (List ℕ) → List Segment → Result (List Segment) Refusal → Result Said Refusal
+abbrev adding : List (List ℕ) → List Segment → Result (List Segment) Refusal → Result Parts Refusal
 adding locators segments r = r >>= λ ss. Ok (saying locators (segments ++ ss))
 
 adding_more : (locators : List (List ℕ)) (segments : List Segment) (s : Segment) (r : Result (List Segment) Refusal) → adding locators (segments ++ s ∷ []) r ≡ adding locators segments (r >>= λ ss. Ok (s ∷ ss))
 adding_more locators segments s (Ok ss) = ap (λ all. Ok (saying locators all)) (append_assoc segments (s ∷ []) ss)
 adding_more locators segments s (Err e) = refl
 
-adding_first : (locators : List (List ℕ)) (segments : List Segment) (r : Result Segment Refusal) (f : Said → Result Said Refusal) (g : Result (List Segment) Refusal) → ((s : Segment) → f (saying locators (segments ++ s ∷ [])) ≡ adding locators (segments ++ s ∷ []) g) → ((r >>= λ s. Ok (with_segment (saying locators segments) s)) >>= f) ≡ adding locators segments (r >>= λ s. g >>= λ ss. Ok (s ∷ ss))
+adding_first : (locators : List (List ℕ)) (segments : List Segment) (r : Result Segment Refusal) (f : Parts → Result Parts Refusal) (g : Result (List Segment) Refusal) → ((s : Segment) → f (saying locators (segments ++ s ∷ [])) ≡ adding locators (segments ++ s ∷ []) g) → ((r >>= λ s. Ok (with_segment (saying locators segments) s)) >>= f) ≡ adding locators segments (r >>= λ s. g >>= λ ss. Ok (s ∷ ss))
 adding_first locators segments (Ok s) f g h = h s ∙ adding_more locators segments s g
 adding_first locators segments (Err e) f g h = refl
 
@@ -141,7 +142,7 @@ behind_yes t ts e =
 behind_no : (t : List ℕ) (ts : List (List ℕ)) → is_locator t ≡ false → drop (prefix_len is_locator (t ∷ ts)) (t ∷ ts) ≡ t ∷ ts
 behind_no t ts e = let none : prefix_len is_locator (t ∷ ts) ≡ 0 = rw e in ap (λ n. drop n (t ∷ ts)) none
 
--- what is refused behind these locators
+-- what is refused after these locators
 bad_from : ℕ → ℕ → List (List ℕ) → List (List ℕ) → Option Refusal
 bad_from at end [] tokens = bad_locators at end tokens
 bad_from at end (l ∷ ls) tokens = bad_rest at end (total_size (l ∷ ls)) tokens
@@ -153,7 +154,7 @@ bad_from_more at end (l ∷ ls) t ts e =
     let sum : total_size (l ∷ ls) + size t ≡ total_size (l ∷ ls ++ t ∷ []) = omega (arith, sum_by-append size (l ∷ ls) (t ∷ [])) in
     rw e (ap (λ n. bad_rest (at + length t + 1) end n ts) sum)
 
--- segments behind the locators
+-- segments after the locators
 segments_end : (at end : ℕ) (name l : List ℕ) (ls : List (List ℕ)) (t : List ℕ) (ts : List (List ℕ)) → is_stream_name name ≡ true → is_locator t ≡ false → Agrees (tokens_at at (t ∷ ts) (saying (l ∷ ls) []) >>= whole end name) (stream_of_parts name (l ∷ ls) (t ∷ ts)) (bad_segments at (total_size (l ∷ ls)) (t ∷ ts))
 unfolding segments_at whole
 segments_end at end name l ls t ts named other =
@@ -212,7 +213,7 @@ unfolding tokens_at whole bad_from
 locators_only at end name l ls =
     rw (eqb-suc-zero (length ls)) (ap (λ xs. stream_of_parts name xs []) (append-nil (l ∷ ls)) ∙ stream_no_segments name l ls, refl)
 
--- the tokens behind these locators
+-- the tokens after these locators
 tokens_agree : (at end : ℕ) (name : List ℕ) (ls tokens : List (List ℕ)) → is_stream_name name ≡ true → AgreesFrom at end name ls tokens
 unfolding tokens_at whole bad_from
 tokens_agree at end name [] [] named = (stream_no_locators name [], refl)
@@ -230,7 +231,7 @@ named_agrees at end (name ∷ tokens) = by_name (is_stream_name (decode name)) r
   where
     by_name : (b : Bool) → is_stream_name (decode name) ≡ b → Agrees (named_at at end (name ∷ tokens)) (stream_of_tokens (name ∷ tokens)) (bad_tokens at end (name ∷ tokens))
     by_name true e =
-        agrees_as _ (tokens_at (at + length name + 1) tokens nothing >>= whole end (decode name)) _ (stream_of_tokens (name ∷ tokens)) _ (bad_locators (at + length name + 1) end tokens)
+        agrees_as _ (tokens_at (at + length name + 1) tokens no_parts >>= whole end (decode name)) _ (stream_of_tokens (name ∷ tokens)) _ (bad_locators (at + length name + 1) end tokens)
         (rw e) refl (rw e) (tokens_agree (at + length name + 1) end (decode name) [] tokens e)
     by_name false e =
         agrees_as _ (refuse at BadStream) _ None _ (refused at BadStream) (rw e) (stream_unnamed (decode name) (take_while is_locator tokens) (drop (prefix_len is_locator tokens) tokens) e) (rw e) (refl, refl)

@@ -1,4 +1,5 @@
 -- What names written in a manifest stand for.
+-- Laws: `decode_escape`, `decode_double`, `decode_plain`, `decode_nothing`, `decode_encode`.
 use Rattle.std.proofs.Common.{◌≡◌, ℕ, ◌+◌, ◌/◌, ◌%◌, ◌<◌, eqb, Bool, true, false, cond, List, [], ◌∷◌, ◌++◌, length, drop, get_or, refl, ap, ◌∙◌, arith}
 use Rattle.std.proofs.lemmas.Bool.Decides.{nat_tests}
 use Rattle.keep_spec.specs.Names.{decode, octal_value, is_code, encode, encode_byte, is_escaped}

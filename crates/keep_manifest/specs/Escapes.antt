@@ -1,4 +1,4 @@
--- What a written name begins with.
+-- Which escape a written name begins with.
 use Rattle.std.specs.Prelude.{ℕ, Bool, false, List, [], ◌∷◌}
 use Rattle.keep_spec.specs.Names.{is_escape, is_double}
 

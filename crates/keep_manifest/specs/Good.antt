@@ -1,4 +1,4 @@
--- What a manifest must have to be read from some text, as a test.
+-- Whether a manifest can be written, as a test: `IsGood` says that some text reads to it.
 use Rattle.std.specs.Prelude.{ℕ, ◌^◌, ◌&&◌, nat_lt, Bool, length}
 use Rattle.std.specs.List.{list_all}
 use Rattle.keep_spec.specs.Names.{is_stream_name}

@@ -1,4 +1,4 @@
--- The lines of a text, and the tokens of the part of a line that is left.
+-- The lines of a text, and the tokens of the rest of a line.
 use Rattle.std.specs.Prelude.{ℕ, ◌==◌, List, [], Option, None, Some}
 use Rattle.std.specs.List.{slice_split}
 use denote.Ref.{Bor}

@@ -1,16 +1,16 @@
-// Why a text was not read as a manifest.
+// Why a text wasn't parsed as a manifest.
 ghost use Rattle.std.specs.Prelude.{◌≡◌};
 ghost use Rattle.keep_manifest.specs.declared.fault.BadManifest.TheVariants.{NoMemory, Refused};
 
 use keep_spec::{Kind, Refusal};
 use std::alloc::{AllocError, AllocFailed};
 
-/// A text that was not read as a manifest.
+/// The error of a call that reads a manifest.
 #[derive(Clone, Copy, Debug, PartialEq, Eq)]
 pub enum BadManifest {
-    /// Memory was refused. It may stand in place of any other answer.
+    /// Memory was refused. This may come at any time, and says nothing of the text.
     NoMemory,
-    /// The text is no manifest: its first refusal from the left.
+    /// The text is no manifest: what is wrong with it first from the left, and at which byte.
     Refused(Refusal),
 }
 

@@ -10,10 +10,10 @@ use crate::names::is_stream_name;
 use crate::segment::{is_named, is_within};
 use keep_spec::{Bytes, Manifest, Segment, Stream};
 
-/// A number has at most 19 digits.
+// Numbers have at most 19 digits.
 const NUMBERS_END: u64 = 10_000_000_000_000_000_000;
 
-/// Whether some text reads to the manifest, so that it can be written. No memory is taken.
+/// Whether some text reads to this manifest, so that it can be written. Takes no memory.
 pub fn is_good(manifest: &Manifest) -> bool
     ensures { IsTrue result ↔ IsGood manifest.now }
 {
@@ -57,7 +57,7 @@ fn is_good_segment(total: u128, segment: &Segment) -> bool
         && is_within(total, segment)
 }
 
-// The bytes of the blocks; None where one isn't a locator.
+// The sum of the blocks' sizes in bytes; `None` where one isn't a locator.
 fn total_of(locators: &[Bytes]) -> Option<u128>
     ensures { result ≡ (if list_all is_locator locators.now then Some (total_size locators.now) else None) }
 {

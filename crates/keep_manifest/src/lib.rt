@@ -2,22 +2,22 @@
 #![tactic(auto)]
 
 mod cut;
+mod digests;
 mod fault;
 mod good;
 mod line;
 mod names;
-mod naming;
-mod reading;
+mod parsing;
 mod segment;
 #[cfg(test)]
 mod tests;
 mod writing;
 
 pub use cut::cut_token;
+pub use digests::named;
 pub use fault::BadManifest;
 pub use good::is_good;
 pub use keep_spec::{Kind, Manifest, Refusal, Segment, Stream};
 pub use names::{decode_name, encode_name};
-pub use naming::named;
-pub use reading::read;
+pub use parsing::read;
 pub use writing::write;

@@ -6,8 +6,8 @@ ghost use Rattle.keep_manifest.specs.Escapes.{begins_escape, begins_double};
 use keep_spec::{Bytes, NoMemory};
 use std::alloc::{AllocError, Global};
 
-/// The bytes that a name in a manifest stands for: `\` and three octal digits of value at most 255 are one byte,
-/// `\\` is one backslash, and any other byte stands for itself.
+/// Decodes a name of a manifest: `\` and three octal digits of value at most 255 stand for one byte, `\\` for one backslash, and any
+/// other byte for itself (Arvados). Every text decodes.
 pub fn decode_name(alloc: Global, text: &[u8]) -> Result<Bytes, NoMemory>
     ensures { IfOk result (λ name. name ≡ decode text.now) }
 {
@@ -27,7 +27,7 @@ fn decoded(alloc: Global, text: &[u8]) -> Result<Vec<u8>, AllocError>
     Ok(name)
 }
 
-// The byte that a written name begins with, and how many bytes stand for it.
+// The first byte that a written name stands for, and how many bytes it is written in.
 fn first_byte(text: &[u8]) -> (u8, usize)
     requires { 0 < length text.now }
     ensures byte { decode text.now ≡ result.0 ∷ decode (drop result.1 text.now) }
@@ -58,8 +58,8 @@ fn begins_double(text: &[u8]) -> bool
     matches!(text, [b'\\', b'\\', ..])
 }
 
-/// A name as it is written in a manifest: the bytes 0 to 32, `:` and `\` each as `\` and three octal digits, all others
-/// as they are.
+/// Encodes a name for a manifest: the bytes 0 to 32, `:` and `\` each as `\` and three octal digits, all others as they are (Arvados).
+/// Decoding the result returns the name.
 pub fn encode_name(alloc: Global, name: &[u8]) -> Result<Bytes, NoMemory>
     ensures written { IfOk result (λ text. text ≡ encode name.now) }
     ensures read_again { IfOk result (λ text. decode text ≡ name.now) }
@@ -76,7 +76,7 @@ fn encoded(alloc: Global, name: &[u8]) -> Result<Vec<u8>, AllocError>
     Ok(text)
 }
 
-// Appends a name as it is written.
+// Appends an encoded name. On error a part of it may remain.
 pub(crate) fn push_name(text: &mut Vec<u8>, name: &[u8]) -> Result<(), AllocError>
     ensures { IfOk result (λ _. text.new.items ≡ text.old.items ++ encode name.now) }
 {

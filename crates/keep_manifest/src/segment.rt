@@ -2,7 +2,7 @@
 ghost use Rattle.std.specs.Prelude.{◌≡◌, IfOk, codes};
 ghost use Rattle.std.specs.Str.{bytes_eq};
 ghost use Rattle.keep_spec.specs.Manifest.{segment_form, is_named, is_within};
-ghost use Rattle.keep_manifest.specs.Reading.{Gives, segment_at};
+ghost use Rattle.keep_manifest.specs.Parsing.{Returns, segment_at};
 
 use crate::cut::cut_at;
 use crate::fault::{BadManifest, refused};
@@ -10,15 +10,15 @@ use crate::names::{decode_name, is_path};
 use keep_spec::{Kind, NoMemory, Segment, read_number};
 use std::alloc::Global;
 
-// The segment that a token says in a stream of `total` bytes. `at` is the token's offset in the text.
-#[tactic(auto, unfolding(crate::specs::Reading::segment_at))]
-pub(crate) fn read_segment(
+// The segment of a token in a stream of `total` bytes. The token begins at `at` in the text.
+#[tactic(auto, unfolding(crate::specs::Parsing::segment_at))]
+pub(crate) fn parse_segment(
     alloc: Global,
     at: usize,
     total: u128,
     token: &[u8],
 ) -> Result<Segment, BadManifest>
-    ensures { Gives result (segment_at at total token.now) }
+    ensures { Returns result (segment_at at total token.now) }
 {
     let Some(segment) = segment_form(alloc, token)? else {
         return Err(refused(at, Kind::BadSegment));

@@ -8,7 +8,8 @@ use itoa::Buffer;
 use keep_spec::{Bytes, Manifest, NoMemory, Segment, Stream};
 use std::alloc::{AllocError, Global};
 
-/// The text of a good manifest: names with their escapes, numbers without leading zeros, each line ended by a newline.
+/// Writes a good manifest: names encoded, numbers without leading zeros, a newline after each line (Arvados). Reading the text returns
+/// the manifest.
 pub fn write(alloc: Global, manifest: &Manifest) -> Result<Bytes, NoMemory>
     requires { IsGood manifest.now }
     ensures written { IfOk result (λ text. text ≡ text_of manifest.now) }

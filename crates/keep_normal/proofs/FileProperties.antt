@@ -15,9 +15,9 @@ use Rattle.keep_normal.specs.Files.{pieces, joined_parts, file_of, files, paths_
 use Rattle.keep_normal.specs.FirstUse.{ListsBlocks}
 use Rattle.keep_normal.specs.Grouped.{byte_order, values_of, keys_in, grouped}
 use Rattle.keep_normal.specs.Normal.{blocks, or_empty_block, uses, files_in, directory, by_directory, line_of, normal_of}
-use Rattle.keep_normal.proofs.Again.{file_paths}
+use Rattle.keep_normal.proofs.NormalFiles.{file_paths}
 use Rattle.keep_normal.proofs.FirstUses.{line-lists}
-use Rattle.keep_normal.proofs.Gathered.{grouped-ascending}
+use Rattle.keep_normal.proofs.Grouping.{grouped-ascending}
 use Rattle.keep_normal.proofs.GroupedPairs.{grouped-entries, grouped-keys}
 
 -- Files.

@@ -13,7 +13,7 @@ use Rattle.keep_spec.specs.Locator.{size}
 use Rattle.keep_normal.specs.declared.part.FileParts.{FileParts}
 use Rattle.keep_normal.specs.FirstUse.{first_use, IsByFirstUse, ListsBlocks}
 use Rattle.keep_normal.specs.Normal.{start_at, with_block, blocks, uses, or_empty_block}
-use Rattle.keep_normal.proofs.Starts.{start_by, missing}
+use Rattle.keep_normal.proofs.BlockStarts.{start_by, missing}
 
 -- Whether a block is one of others.
 

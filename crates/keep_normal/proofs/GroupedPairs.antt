@@ -13,9 +13,8 @@ use Rattle.std.proofs.lemmas.List.Elements.{All-from_recursion, All-contains, Co
 use Rattle.std.proofs.lemmas.Map.Keys.{sorted_head, sorted_tail}
 use Rattle.std.proofs.lemmas.Map.Text.{is_eq-slice_cmp}
 use Rattle.keep_normal.specs.Grouped.{byte_order, values_at, values_of, keys_in, grouped}
-use Rattle.keep_normal.proofs.Gathered.{grouped-ascending}
-use Rattle.keep_normal.proofs.Maps.{has_key, found, found_first, is_filled, key-same, selected, grouped-values, grouped-filled}
-use Rattle.keep_normal.proofs.Table.{IsAscending, at-same}
+use Rattle.keep_normal.proofs.Grouping.{grouped-ascending, has_key, found, found_first, is_filled, key-same, selected, grouped-values, grouped-filled}
+use Rattle.keep_normal.proofs.OrderedEntries.{IsAscending, at-same}
 
 -- The values beside a key are those of its pairs.
 

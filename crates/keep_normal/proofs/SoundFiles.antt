@@ -1,4 +1,5 @@
 -- The parts of a good manifest's files are sound.
+-- Laws: `parts_sound`, `good_stream_is`, `pieces_sound`, `joined_sound`, `files_sound`, `ranges_sound`, `directories_sound`.
 use Rattle.std.proofs.Common.{◌≡◌, ℕ, ◌+◌, ltb, Bool, true, false, ◌&&◌, cond, List, [], ◌∷◌, length, map, refl, ap, ◌∙◌, arith, inl, inr}
 use Rattle.std.specs.List.{list_all, flat_map}
 use Rattle.std.proofs.lemmas.Bool.{and_parts, and_from, cases_lt}
@@ -10,7 +11,7 @@ use Rattle.keep_spec.specs.declared.manifest.Manifest.{Manifest}
 use Rattle.keep_spec.specs.declared.manifest.Stream.{Stream}
 use Rattle.keep_spec.specs.declared.manifest.Segment.{Segment}
 use Rattle.keep_manifest.specs.Good.{is_good_segment, is_good_stream, is_good_manifest}
-use Rattle.keep_manifest.proofs.Visible.{list_all-weaker}
+use Rattle.keep_locator.proofs.Lists.{list_all-weaker}
 use Rattle.keep_normal.specs.declared.part.Part.{Part}
 use Rattle.keep_normal.specs.declared.part.FileParts.{FileParts}
 use Rattle.keep_normal.specs.declared.span.Span.{Span}
@@ -19,11 +20,11 @@ use Rattle.keep_normal.specs.Grouped.{grouped}
 use Rattle.keep_normal.specs.Joined.{joined_before}
 use Rattle.keep_normal.specs.Normal.{by_directory, directory}
 use Rattle.keep_normal.specs.Sound.{is_sound, are_sound}
-use Rattle.keep_normal.proofs.Fails.{list_all-flat_map}
-use Rattle.keep_normal.proofs.Gathered.{all_values, all_pairs, grouped-all}
-use Rattle.keep_normal.proofs.Parts.{kept_none, kept_some}
-use Rattle.keep_normal.proofs.Sounds.{sound_is, sound_from, both_sound}
-use Rattle.keep_normal.proofs.Strips.{locator-stripped, size-stripped}
+use Rattle.keep_normal.proofs.TooLarge.{list_all-flat_map}
+use Rattle.keep_normal.proofs.Grouping.{all_values, all_pairs, grouped-all}
+use Rattle.keep_normal.proofs.SpanParts.{kept_none, kept_some}
+use Rattle.keep_normal.proofs.SoundParts.{sound_is, sound_from, both_sound}
+use Rattle.keep_normal.proofs.StrippedLocators.{locator-stripped, size-stripped}
 
 -- the parts of the blocks of a stream
 

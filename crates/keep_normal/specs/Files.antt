@@ -1,4 +1,4 @@
--- The files of a manifest: what bytes of which blocks each of them has, in the order of the text.
+-- The files of a manifest: which bytes of which blocks each of them has, in the order of the text (Arvados).
 use Rattle.std.specs.Prelude.{ℕ, ◌+◌, ◌-◌, ◌==◌, ◌&&◌, max, min, Bool, List, [], ◌∷◌, ◌++◌, map, codes, if◌then◌else◌}
 use Rattle.std.specs.List.{flat_map}
 use Rattle.std.specs.Str.{bytes_eq}
@@ -48,7 +48,7 @@ stream_pieces s = flat_map (piece_of s) s.segments
 abbrev pub pieces : Manifest → List (List ℕ × List Part)
 pieces m = flat_map stream_pieces m.streams
 
--- two parts of one block, the second right behind the first; blocks are one where their stripped locators are
+-- the second part follows the first in one block; two blocks are one where their stripped locators are
 abbrev pub touch : Part → Part → Bool
 touch p q = bytes_eq (stripped p.locator) (stripped q.locator) && p.offset + p.length == q.offset
 

@@ -1,4 +1,4 @@
--- Values that stand beside keys, put together by key: an ordered map from each key to its values in their order.
+-- Values grouped by key: an ordered map from each key to its values in their order.
 use Rattle.std.specs.Prelude.{ℕ, List, [], ◌∷◌, ◌++◌, filter, map, unwrap_or, fold}
 use Rattle.std.specs.Ordering.{nat_cmp}
 use Rattle.std.specs.declared.cmp.Ordering.{Ordering}
@@ -15,7 +15,7 @@ byte_order = slice_cmp nat_cmp
 abbrev pub values_at : {X : Type 0} → List (List ℕ × List X) → List ℕ → List X
 values_at m key = unwrap_or (lookup (is_at (byte_order key)) m) []
 
--- the map with one value more, the last at its key
+-- the map with one more value, the last at its key
 unfoldable pub put : {X : Type 0} → List (List ℕ × List X) → List ℕ × X → List (List ℕ × List X)
 put m p = insert_entry byte_order m p.0 (values_at m p.0 ++ p.1 ∷ [])
 

@@ -11,7 +11,7 @@ abbrev pub joined : {X : Type 0} → (X → X → Bool) → (X → X → X) → 
 joined touches both [] = []
 joined touches both (x ∷ xs) = joined_before touches both x (joined touches both xs)
 
--- a list with one more at its end, joined to the last where the two touch
+-- a list with one more at its end, joined to the last one where the two touch
 abbrev pub joined_behind : {X : Type 0} → (X → X → Bool) → (X → X → X) → List X → X → List X
 joined_behind touches both [] y = y ∷ []
 joined_behind touches both (x ∷ []) y = if touches x y then both x y ∷ [] else x ∷ y ∷ []

@@ -1,4 +1,4 @@
--- What is remembered of the blocks of a line.
+-- What `Blocks` remembers of the blocks of a line.
 use Rattle.std.specs.Prelude.{ℕ, ◌*◌, ◌^◌, ◌≤◌, ◌≡◌, List, length}
 use Rattle.std.specs.BTreeMap.{get}
 use Rattle.keep_spec.specs.Manifest.{total_size}

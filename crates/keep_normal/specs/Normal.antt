@@ -37,7 +37,7 @@ abbrev pub start_at : List (List ℕ) → List ℕ → Option ℕ
 start_at [] locator = None
 start_at (b ∷ bs) locator = if bytes_eq b locator then Some 0 else option_map (λ n. size b + n) (start_at bs locator)
 
--- blocks with one more, the last, where it isn't one of them
+-- blocks with one more at the end, unless it is one of them
 abbrev pub with_block : List (List ℕ) → List ℕ → List (List ℕ)
 with_block bs locator = if is_some (start_at bs locator) then bs else bs ++ locator ∷ []
 

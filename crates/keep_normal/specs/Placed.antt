@@ -1,4 +1,4 @@
--- Where the blocks of a stream lie, one behind another.
+-- Where the blocks of a stream lie, end to end.
 use Rattle.std.specs.Prelude.{ℕ, ◌+◌, List, [], ◌∷◌}
 use Rattle.keep_spec.specs.Locator.{size}
 use Rattle.keep_normal.specs.declared.block.Block.{Block}

@@ -4,7 +4,7 @@ use Rattle.std.specs.List.{list_all}
 use Rattle.keep_spec.specs.Locator.{is_locator, size}
 use Rattle.keep_normal.specs.declared.part.Part.{Part}
 
--- some bytes within a block
+-- at least one byte, and all within the block
 abbrev pub is_sound : Part → Bool
 is_sound p = is_locator p.locator && nat_lt 0 p.length && nat_le (p.offset + p.length) (size p.locator)
 

@@ -1,4 +1,4 @@
-// The blocks of a stream, and where they lie in it.
+// The blocks of a stream, which lie end to end in it.
 ghost use Rattle.std.specs.Prelude.{◌≡◌, ◌+◌, ◌*◌, ◌^◌, ◌<◌, ◌≤◌, ◌++◌, [], ◌∷◌, length, take, IsTrue, IfOk, OnOk, slice_index_or};
 ghost use Rattle.std.specs.List.{list_all};
 ghost use Rattle.keep_spec.specs.Locator.{is_locator, size};
@@ -13,14 +13,14 @@ use keep_locator::Locator;
 use keep_spec::{Bytes, Items};
 use std::alloc::{AllocError, Global};
 
-/// Where a block begins and ends in its stream.
+/// The bytes `start..end` of a stream, those of one block.
 #[derive(Drop)]
 pub(crate) struct Block {
     pub(crate) start: u128,
     pub(crate) end: u128,
 }
 
-// The places of the blocks of these locators, which lie end to end.
+// Where the blocks of these locators lie in their stream.
 pub(crate) fn blocks_of(alloc: Global, locators: &[Bytes]) -> Result<Vec<Block>, AllocError>
     requires { IsTrue (list_all is_locator locators.now) }
     ensures { IfOk result (λ blocks. blocks.items ≡ placed 0 locators.now) }
@@ -35,7 +35,7 @@ pub(crate) fn blocks_of(alloc: Global, locators: &[Bytes]) -> Result<Vec<Block>,
     Ok(blocks)
 }
 
-// The bytes of a block.
+// The size of a block in bytes.
 pub(crate) fn block_size(locator: &[u8]) -> u64
     requires { IsTrue (is_locator locator.now) }
     ensures value { result ≡ size locator.now }
@@ -47,7 +47,7 @@ pub(crate) fn block_size(locator: &[u8]) -> u64
     locator.size()
 }
 
-// A block that begins at `from` or before it; the next one, if any, begins behind it.
+// The last block that begins at `from` or before, by binary search.
 fn find_block(blocks: &[Block], from: u128) -> usize
     requires some { 0 < length blocks.now }
     requires first { (d : Block) → (slice_index_or blocks.now 0 d).start ≤ from }
@@ -90,7 +90,7 @@ pub(crate) fn parts_in(
     Ok(Items::of(parts))
 }
 
-// The part of a block that lies in a span, behind others; none where it has no bytes.
+// Appends the part of a block that lies in a span, unless it has no bytes.
 fn push_part(
     alloc: Global,
     parts: &mut Vec<Part>,

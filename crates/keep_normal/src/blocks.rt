@@ -12,13 +12,13 @@ use keep_spec::Bytes;
 use std::alloc::{AllocError, Global};
 use std::collections::BTreeMap;
 
-/// The blocks that lie end to end in a line, each once.
+/// The blocks of a line, each once, which lie end to end.
 #[derive(Drop)]
 pub(crate) struct Blocks {
     pub(crate) locators: Vec<Bytes>,
-    // Where each begins.
+    // Where each begins, in bytes.
     known: BTreeMap<Bytes, u128>,
-    // The bytes of all.
+    // The sum of their sizes, in bytes.
     total: u128,
 }
 
@@ -34,7 +34,7 @@ impl Blocks {
         }
     }
 
-    // Where a block begins, and 0 where it isn't one of them.
+    // Where a block begins, in bytes; 0 for a block that isn't listed.
     pub(crate) fn start(&self, locator: &Bytes) -> u128
         requires { IsKnown self.now }
         ensures value { result ≡ unwrap_or (start_at self.now.locators.items locator.now) 0 }
@@ -46,7 +46,7 @@ impl Blocks {
         }
     }
 
-    // Puts a block behind the others, where it isn't one of them.
+    // Appends a block, unless it is listed.
     fn add(&mut self, alloc: Global, locator: &Bytes) -> Result<(), AllocError>
         requires known { IsKnown self.old }
         requires locator { IsTrue (is_locator locator.now) }
@@ -60,7 +60,7 @@ impl Blocks {
         self.push(alloc, locator)
     }
 
-    // Puts a new block behind the others.
+    // Appends a block that isn't listed.
     fn push(&mut self, alloc: Global, locator: &Bytes) -> Result<(), AllocError>
         requires known { IsKnown self.old }
         requires locator { IsTrue (is_locator locator.now) }
@@ -77,7 +77,7 @@ impl Blocks {
         Ok(())
     }
 
-    // Adds the blocks of parts.
+    // Appends the blocks of parts that aren't listed.
     fn add_all(&mut self, alloc: Global, parts: &[Part]) -> Result<(), AllocError>
         requires known { IsKnown self.old }
         requires locators { IsTrue (are_sound parts.now) }

@@ -1,15 +1,15 @@
-// Why a manifest has no normal form here.
+// Why a manifest wasn't normalized.
 ghost use Rattle.std.specs.Prelude.{◌≡◌};
 ghost use Rattle.keep_normal.specs.declared.fault.NormalError.TheVariants.{NoMemory};
 
 use std::alloc::{AllocError, AllocFailed};
 
-/// A manifest that was not normalized.
+/// The error of `normalize`.
 #[derive(Clone, Copy, Debug, PartialEq, Eq)]
 pub enum NormalError {
-    /// Memory was refused. It may stand in place of any other answer.
+    /// Memory was refused. This may come at any time, and says nothing of the manifest.
     NoMemory,
-    /// A position or a size in the normal form isn't below 10^19: blocks that come from several streams may lie in one line there.
+    /// A position or a size of the normal form isn't below 10^19, since blocks of several streams come together in one line there.
     TooLarge,
 }
 

@@ -1,4 +1,4 @@
-// Values put together by key.
+// Values grouped by key.
 ghost use Rattle.std.specs.Prelude.{◌≡◌, OnOk, List};
 ghost use Rattle.std.specs.BTreeMap.{IsOrdered, is_at};
 ghost use Rattle.std.specs.Map.{remove_entry};
@@ -8,10 +8,10 @@ use keep_spec::{Bytes, Items};
 use std::alloc::{AllocError, Global};
 use std::collections::BTreeMap;
 
-/// A map from keys in order of their bytes to the values that were put at each, in the order in which they came.
+/// A map from keys, in order of their bytes, to the values that were put at each, in the order in which they came.
 pub(crate) type Groups<T> = BTreeMap<Bytes, Items<T>>;
 
-// Puts a value behind those of its key.
+// Appends a value to those of its key.
 pub(crate) fn put<T: Drop>(
     alloc: Global,
     groups: &mut Groups<T>,
@@ -28,7 +28,7 @@ pub(crate) fn put<T: Drop>(
     Ok(())
 }
 
-// Takes the values at a key out.
+// Removes a key and returns its values; none for a key that the map doesn't have.
 fn taken<T: Drop>(alloc: Global, groups: &mut Groups<T>, key: &Bytes) -> Vec<T>
     ensures values { result.items ≡ values_at groups.old.entries key.now }
     ensures entries { groups.new.entries ≡ remove_entry (is_at (byte_order key.now)) groups.old.entries }

@@ -5,7 +5,7 @@ ghost use Rattle.keep_spec.specs.Manifest.{manifest_of};
 ghost use Rattle.keep_spec.specs.Refusals.{bad};
 ghost use Rattle.keep_spec.specs.SignedText.{changed};
 ghost use Rattle.keep_spec.specs.Stripped.{portable_hash, stripped_text};
-ghost use Rattle.keep_manifest.specs.Reading.{IsCause};
+ghost use Rattle.keep_manifest.specs.Causes.{IsCause};
 
 use keep_locator::Locator;
 use keep_manifest::{BadManifest, cut_token, read};
@@ -13,8 +13,8 @@ use keep_spec::{Bytes, Digest, NoMemory, Portable};
 use md5::Md5;
 use std::alloc::Global;
 
-/// The portable data hash of a manifest: the MD5 of its stripped text, and that text's length in bytes. It is taken of the text as it
-/// stands, not of the normal form. A text that isn't a manifest is refused as reading it is.
+/// The portable data hash of a manifest: the MD5 of its stripped text, and that text's length in bytes (Arvados). It is taken of the text
+/// as it stands, not of the normal form. A text that isn't a manifest is refused as `read` refuses it.
 pub fn portable_hash(alloc: Global, text: &[u8]) -> Result<Portable, BadManifest>
     ensures manifest { OnOk result (IsSome (manifest_of text.now)) }
     ensures hash { IfOk result (λ p. p ≡ portable_hash text.now) }
@@ -28,8 +28,7 @@ pub fn portable_hash(alloc: Global, text: &[u8]) -> Result<Portable, BadManifest
     })
 }
 
-/// The text of a manifest with each locator cut after its size. All other bytes stay. A text that isn't a manifest is refused as
-/// reading it is.
+/// Cuts each locator of a manifest after its size. All other bytes stay. A text that isn't a manifest is refused as `read` refuses it.
 pub fn stripped_text(alloc: Global, text: &[u8]) -> Result<Bytes, BadManifest>
     ensures manifest { OnOk result (IsSome (manifest_of text.now)) }
     ensures text { IfOk result (λ b. b ≡ stripped_text text.now) }
@@ -38,15 +37,15 @@ pub fn stripped_text(alloc: Global, text: &[u8]) -> Result<Bytes, BadManifest>
     let _manifest = read(alloc, text)?;
     let mut out = Vec::with_capacity(alloc, text.len())?;
     let mut rest = text;
-    while let Some((part, end, behind)) = cut_token(rest) {
+    while let Some((part, end, after)) = cut_token(rest) {
         push_stripped(&mut out, part)?;
         out.extend_from_slice(end)?;
-        rest = behind;
+        rest = after;
     }
     Ok(Bytes::of(out))
 }
 
-// A token behind the text; where it is a locator, without its hints.
+// Appends a token; a locator without its hints.
 fn push_stripped(out: &mut Vec<u8>, part: &[u8]) -> Result<(), NoMemory>
     ensures { OnOk result (out.new.items ≡ out.old.items ++ changed stripped part.now) }
 {

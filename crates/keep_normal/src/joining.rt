@@ -1,4 +1,4 @@
-// Parts and spans that touch, joined into one.
+// Parts and spans that touch, joined.
 ghost use Rattle.std.specs.Prelude.{◌≡◌, true, IsTrue, OnOk, fold};
 ghost use Rattle.keep_normal.specs.Joined.{joined_behind};
 ghost use Rattle.keep_normal.specs.Files.{touch, both_parts};
@@ -10,7 +10,7 @@ use crate::span::Span;
 use crate::stripping::stripped;
 use std::alloc::AllocError;
 
-// Puts parts behind others, each joined to the last where the two touch.
+// Appends parts, each joined to the last one where the two touch.
 pub(crate) fn join_parts(parts: &mut Vec<Part>, more: Vec<Part>) -> Result<(), AllocError>
     requires before { IsTrue (are_sound parts.old.items) }
     requires more { IsTrue (are_sound more.items) }
@@ -43,7 +43,7 @@ fn join_part(parts: &mut Vec<Part>, part: Part) -> Result<(), AllocError>
     Ok(())
 }
 
-// Whether the second lies right behind the first in one block.
+// Whether the second part follows the first in one block, with no byte between.
 fn touch(first: &Part, second: &Part) -> bool
     ensures { result ≡ touch first.now second.now }
 {
@@ -51,7 +51,7 @@ fn touch(first: &Part, second: &Part) -> bool
         && u128::from(first.offset) + u128::from(first.length) == u128::from(second.offset)
 }
 
-// Two parts that touch in one.
+// Two parts that touch, as one.
 fn both(first: Part, second: &Part) -> Part
     requires touch { touch first second.now ≡ true }
     requires first { IsTrue (is_sound first) }
@@ -70,7 +70,7 @@ fn both(first: Part, second: &Part) -> Part
     }
 }
 
-// Puts a span behind others, joined to the last where the two meet.
+// Appends a span, joined to the last one where the two meet.
 pub(crate) fn join_span(spans: &mut Vec<Span>, span: Span) -> Result<(), AllocError>
     ensures { OnOk result (spans.new.items ≡ joined_behind meet both_spans spans.old.items span) }
 {

@@ -19,9 +19,9 @@ use keep_spec::{Bytes, Items, Manifest, NoMemory, Segment, Stream};
 use std::alloc::{AllocError, Global};
 use std::collections::BTreeMap;
 
-/// The files of a good manifest in ascending order of their paths' bytes, each with its bytes as parts of blocks in the order of the
-/// text. Parts of no bytes are left out, and parts that touch in one block are joined; a joined part has the whole locator, hints
-/// included, of the first of them. Marks of empty directories are no files.
+/// The files of a good manifest, in ascending order of their paths' bytes. A file's path is its stream's name, `/` and its own name; its
+/// parts are those that all segments with this path name, in the order of the text. Parts of no bytes are left out, and parts that touch
+/// in one block are joined; a joined part has the whole locator, hints included, of the first. Marks of empty directories are no files.
 pub fn files(alloc: Global, manifest: &Manifest) -> Result<Vec<FileParts>, NoMemory>
     requires { IsGood manifest.now }
     ensures files { IfOk result (λ files. files.items ≡ files_of manifest.now) }
@@ -59,7 +59,7 @@ fn files_from(alloc: Global, groups: Groups<Items<Part>>) -> Result<Vec<FilePart
     Ok(files)
 }
 
-// Puts what the segments of a stream name at their paths.
+// Adds what the segments of a stream name to the groups of their paths.
 fn put_stream(
     alloc: Global,
     groups: &mut Groups<Items<Part>>,
@@ -78,7 +78,7 @@ fn put_stream(
     Ok(())
 }
 
-// Puts what a segment names at its path.
+// Adds what a segment names to the group of its path.
 fn put_segment(
     alloc: Global,
     groups: &mut Groups<Items<Part>>,
@@ -123,7 +123,7 @@ fn path_of(alloc: Global, directory: &Bytes, name: &Bytes) -> Result<Bytes, Allo
     Ok(Bytes::of(path))
 }
 
-// The file of a path and of what its segments name, in their order.
+// The file of a path, from what each of its segments names, in their order.
 fn file_of(alloc: Global, path: Bytes, pieces: Items<Items<Part>>) -> Result<FileParts, AllocError>
     requires { IsTrue (list_all are_sound pieces) }
     ensures { IfOk result (λ file. file ≡ file_of (path, pieces)) }

@@ -3,7 +3,7 @@ ghost use Rattle.std.specs.Prelude.{◌≡◌, ◌↔◌, ℕ, List, map, All, C
 ghost use Rattle.std.specs.List.{list_all};
 ghost use Rattle.std.specs.List.Sorted.{IsStrictlySortedBy};
 ghost use Rattle.keep_spec.specs.Manifest.{IsGood};
-ghost use Rattle.keep_normal.specs.Answers.{Answers, Gathers};
+ghost use Rattle.keep_normal.specs.Outcomes.{ReturnsIf, CollectsIf};
 ghost use Rattle.keep_normal.specs.Files.{stripped_file, stripped_part, ranges};
 ghost use Rattle.keep_normal.specs.FirstUse.{ListsBlocks};
 ghost use Rattle.keep_normal.specs.Grouped.{byte_order, grouped};
@@ -21,18 +21,18 @@ use keep_spec::{Bytes, Items, Manifest, Stream};
 use std::alloc::{AllocError, Global};
 use std::collections::BTreeMap;
 
-/// The normal form of a good manifest: a line for each directory that has files, in order of the directories' bytes; in each, the files
-/// in order of their names' bytes, and the stripped locators of their blocks in the order of first use, each once. Segments of one file
-/// that touch are joined. A file of no bytes keeps one segment, and a line without blocks lists the empty block. TooLarge exactly where a
-/// position or a size of it isn't below 10^19.
+/// The normal form of a good manifest (Arvados): a line for each directory that has files, in order of the directories' bytes; in each,
+/// the files in order of their names' bytes, and the stripped locators of their blocks in the order of first use, each once. Segments of
+/// one file that touch are joined. A file of no bytes keeps one segment, and a line without blocks lists the empty block. `TooLarge`
+/// exactly where a position or a size of it isn't below 10^19.
 pub fn normalize(alloc: Global, manifest: &Manifest) -> Result<Manifest, NormalError>
     requires { IsGood manifest.now }
-    ensures answer { Answers result (normal manifest.now) (is_small (normal manifest.now)) }
+    ensures normal_form { ReturnsIf result (normal manifest.now) (is_small (normal manifest.now)) }
 
     // It can be written, has the same files, and its normal form is itself.
     ensures good { IfOk result IsGood }
     ensures files { IfOk result (λ n. ranges n ≡ ranges manifest.now) }
-    ensures again { IfOk result (λ n. normal n ≡ n) }
+    ensures own_normal_form { IfOk result (λ n. normal n ≡ n) }
 
     // Its lines: one for each directory that has files, ascending, with this directory's files and the blocks that they use.
     ensures ascending { IfOk result (λ n. IsStrictlySortedBy byte_order (map (λ s. s.name) n.streams)) }
@@ -90,7 +90,7 @@ fn stripped_part(alloc: Global, part: &Part) -> Result<Part, AllocError>
 
 fn lines_of(alloc: Global, directories: Groups<FileParts>) -> Result<Vec<Stream>, NormalError>
     requires { IsTrue (list_all (λ g. list_all (λ f. are_sound f.parts) g.1) directories.entries) }
-    ensures { Gathers result (map line_of directories.entries)
+    ensures { CollectsIf result (map line_of directories.entries)
         (list_all is_small_stream (map line_of directories.entries)) }
 {
     let mut streams = Vec::new(alloc);

@@ -1,7 +1,7 @@
 // One line of the normal form.
 ghost use Rattle.std.specs.Prelude.{◌≡◌, ◌++◌, map, IsTrue, IfOk};
 ghost use Rattle.std.specs.List.{list_all, flat_map};
-ghost use Rattle.keep_normal.specs.Answers.{Answers, Gathers, Leaves};
+ghost use Rattle.keep_normal.specs.Outcomes.{ReturnsIf, CollectsIf, LeavesIf};
 ghost use Rattle.keep_normal.specs.Known.{IsKnown};
 ghost use Rattle.keep_normal.specs.Normal.{spans, span_in, segment_of, or_empty, file_name, file_segments, or_empty_block, line_of, is_small_segment, is_small_stream};
 ghost use Rattle.keep_normal.specs.Sound.{are_sound};
@@ -15,7 +15,7 @@ use crate::span::Span;
 use keep_spec::{Bytes, Items, Segment, Stream};
 use std::alloc::{AllocError, Global};
 
-/// A number has at most 19 digits.
+// Numbers have at most 19 digits.
 const NUMBERS_END: u128 = 10_000_000_000_000_000_000;
 
 // The line of a directory and its files, whose locators are stripped.
@@ -25,7 +25,7 @@ pub(crate) fn line_of(
     files: Items<FileParts>,
 ) -> Result<Stream, NormalError>
     requires { IsTrue (list_all (λ f. are_sound f.parts) files) }
-    ensures { Answers result (line_of (name, files)) (is_small_stream (line_of (name, files))) }
+    ensures { ReturnsIf result (line_of (name, files)) (is_small_stream (line_of (name, files))) }
 {
     let blocks = blocks_of(alloc, files.as_slice())?;
     let segments = segments_of(alloc, &blocks, files.as_slice())?;
@@ -47,14 +47,14 @@ fn or_empty_block(alloc: Global, mut locators: Vec<Bytes>) -> Result<Vec<Bytes>,
     Ok(locators)
 }
 
-// The segments of files that lie in a line of these blocks.
+// The segments of files in a line that lists these blocks.
 fn segments_of(
     alloc: Global,
     blocks: &Blocks,
     files: &[FileParts],
 ) -> Result<Vec<Segment>, NormalError>
     requires { IsKnown blocks.now }
-    ensures { Gathers result (flat_map (file_segments blocks.now.locators.items) files.now)
+    ensures { CollectsIf result (flat_map (file_segments blocks.now.locators.items) files.now)
         (list_all is_small_segment (flat_map (file_segments blocks.now.locators.items) files.now)) }
 {
     let mut segments = Vec::new(alloc);
@@ -64,7 +64,7 @@ fn segments_of(
     Ok(segments)
 }
 
-// The segments of a file behind others.
+// Appends the segments of a file. On error a part of them may remain.
 fn push_file(
     alloc: Global,
     segments: &mut Vec<Segment>,
@@ -72,7 +72,7 @@ fn push_file(
     file: &FileParts,
 ) -> Result<(), NormalError>
     requires { IsKnown blocks.now }
-    ensures { Leaves result segments.new.items
+    ensures { LeavesIf result segments.new.items
         (segments.old.items ++ file_segments blocks.now.locators.items file.now)
         (list_all is_small_segment (file_segments blocks.now.locators.items file.now)) }
 {
@@ -81,7 +81,7 @@ fn push_file(
     push_segments(alloc, segments, name, &spans)
 }
 
-// The spans of a file's parts, those that meet joined; one of no bytes where there are none.
+// The spans of a file's parts, joined where they meet; one span of no bytes where there are none.
 fn spans_of(alloc: Global, blocks: &Blocks, parts: &[Part]) -> Result<Vec<Span>, AllocError>
     requires { IsKnown blocks.now }
     ensures { IfOk result (λ v. v.items ≡ or_empty (spans blocks.now.locators.items parts.now)) }
@@ -109,14 +109,14 @@ fn span_in(blocks: &Blocks, part: &Part) -> Span
     }
 }
 
-// Segments of a name behind others.
+// Appends segments with this name.
 fn push_segments(
     alloc: Global,
     segments: &mut Vec<Segment>,
     name: &[u8],
     spans: &[Span],
 ) -> Result<(), NormalError>
-    ensures { Leaves result segments.new.items (segments.old.items ++ map (segment_of name.now) spans.now)
+    ensures { LeavesIf result segments.new.items (segments.old.items ++ map (segment_of name.now) spans.now)
         (list_all is_small_segment (map (segment_of name.now) spans.now)) }
 {
     for span in spans {
@@ -125,9 +125,9 @@ fn push_segments(
     Ok(())
 }
 
-// The segment of a name; TooLarge where a number isn't small.
+// The segment of a name and a span; `TooLarge` where a number isn't below 10^19.
 fn segment_of(alloc: Global, name: &[u8], span: Span) -> Result<Segment, NormalError>
-    ensures { Answers result (segment_of name.now span) (is_small_segment (segment_of name.now span)) }
+    ensures { ReturnsIf result (segment_of name.now span) (is_small_segment (segment_of name.now span)) }
 {
     let size = span.to.saturating_sub(span.from);
     if span.from >= NUMBERS_END || size >= NUMBERS_END {

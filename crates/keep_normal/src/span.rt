@@ -1,8 +1,10 @@
-// Some bytes of a stream.
+// A range of a stream's bytes.
 
-/// The bytes of a stream from the one at `from` up to the one before `to`, counted from the start of its first block.
+/// The bytes `from..to` of a stream, counted from the start of its first block.
 #[derive(Clone, Copy, Debug)]
 pub struct Span {
+    /// In bytes.
     pub from: u128,
+    /// In bytes, exclusive.
     pub to: u128,
 }

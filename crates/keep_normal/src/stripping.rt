@@ -4,7 +4,7 @@ ghost use Rattle.std.specs.Char.{is_ascii_digit};
 ghost use Rattle.std.specs.List.{prefix_len};
 ghost use Rattle.keep_spec.specs.Locator.{stripped};
 
-// A locator up to and with its size, which stands behind the digest and its `+`.
+// A locator through its size, which follows the digest and its `+`.
 #[tactic(auto, unfolding(keep_spec::specs::Locator::stripped, keep_spec::specs::Locator::size_digits))]
 pub(crate) fn stripped(locator: &[u8]) -> &[u8]
     ensures { result.now ≡ stripped locator.now }

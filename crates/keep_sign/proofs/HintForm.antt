@@ -1,11 +1,13 @@
 -- The form of a permission hint.
+-- Laws: `length-sha1`, `bytes-sha1`, `bytes-hmac`, `length-signature`, `lower-signature`, `same-hmac`, `value-hex8`, `permission_hint-is`,
+-- `permission_hint-form`, `permission_hint-says`.
 use Rattle.std.proofs.Common.{◌≡◌, ℕ, zero, suc, ◌+◌, ◌-◌, ◌*◌, ◌/◌, ◌%◌, ◌^◌, ◌<◌, true, ◌==◌, nat_eq, List, [], ◌∷◌, ◌++◌, length, take, drop, slice_index, refl, sym, ap, ◌∙◌, arith, zero-add, length-append, inl, inr}
 use Rattle.std.specs.Prelude.{codes}
 use Rattle.std.specs.Char.{digit_value}
 use Rattle.std.specs.Int.{w32, to_be_bytes}
 use Rattle.std.specs.List.{list_all, starts_with}
 use Rattle.std.specs.Str.Parse.{digits_value, digits_value_after}
-use Rattle.std.proofs.lemmas.Bool.{agree_below_at, and_parts, and_from, eqb-true, eq-eqb, cases_lt}
+use Rattle.std.proofs.lemmas.Bool.{agree_below_at, and_from, eqb-true, eq-eqb, cases_lt}
 use Rattle.std.proofs.lemmas.Bool.Decides.{nat_tests}
 use Rattle.std.proofs.lemmas.List.{take_at, drop_at, drop-drop, take_all, get_or_at, get_or_append_left, get_or-append_right}
 use Rattle.std.proofs.lemmas.List.Folds.{list_all-append}
@@ -18,6 +20,7 @@ use Rattle.keep_spec.specs.Sign.{hmac, hex8, signed_text, signature_of}
 use Rattle.keep_spec.specs.SignedText.{permission_hint}
 use Rattle.keep_spec.specs.declared.permission.Permission.{Permission}
 use Rattle.keep_spec.proofs.DigestText.{lower-encode, bytes_of_digits-encode}
+use Rattle.keep_locator.proofs.Lists.{list_all-weaker}
 
 -- Bytes.
 
@@ -146,10 +149,7 @@ lower_character : (c : ℕ) → is_lower_digit c ≡ true → is_hint_character 
 lower_character c is = grind (arith, nat_tests)
 
 lower_characters : (xs : List ℕ) → list_all is_lower_digit xs ≡ true → list_all is_hint_character xs ≡ true
-lower_characters [] all = refl
-lower_characters (x ∷ xs) all =
-    let parts = and_parts (is_lower_digit x) (list_all is_lower_digit xs) all in
-    and_from (is_hint_character x) (list_all is_hint_character xs) (lower_character x parts.0) (lower_characters xs parts.1)
+lower_characters xs all = list_all-weaker is_lower_digit is_hint_character lower_character xs all
 
 hint-form : (s x : List ℕ) → list_all is_lower_digit s ≡ true → list_all is_lower_digit x ≡ true → is_hint (hint_of s x) ≡ true
 unfolding is_hint

@@ -1,4 +1,4 @@
 pub mod HintForm
-pub mod Pads
+pub mod PaddedKeys
 pub mod SignedLocator
 pub mod SignedToken

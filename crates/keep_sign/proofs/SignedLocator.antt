@@ -1,4 +1,6 @@
 -- A locator with other permission hints.
+-- Laws: `with_hints-is`, `only-permission`, `unsigned-locator`, `signed-locator`, `signed-whole`, `signed-stripped`, `signed-valid`,
+-- `other-invalid`.
 use Rattle.std.proofs.Common.{◌≡◌, ℕ, ◌+◌, ◌*◌, ◌^◌, ◌<◌, ◌≤◌, Bool, true, false, not, ◌⊎◌, inl, inr, List, [], ◌∷◌, ◌++◌, length, take, if◌then◌else◌, Option, Some, Result, Ok, Err, refl, sym, ap, ◌∙◌, arith, append_assoc, length-append}
 use Rattle.std.specs.Prelude.{filter}
 use Rattle.std.specs.List.{list_all, concat}
@@ -18,7 +20,7 @@ use Rattle.keep_spec.specs.declared.permission.Permission.{Permission}
 use Rattle.keep_spec.specs.declared.unverified.Verified.{Verified}
 use Rattle.keep_spec.specs.declared.unverified.Unverified.{Unverified}
 use Rattle.keep_spec.specs.declared.unverified.Unverified.TheVariants.{Expired, Invalid}
-use Rattle.keep_locator.proofs.Joined.{joined, joined_whole, own_parts}
+use Rattle.keep_locator.proofs.JoinedParts.{joined, joined_whole, own_parts}
 use Rattle.keep_sign.proofs.HintForm.{bytes-hmac, same-hmac, permission_hint-is, permission_hint-form, permission_hint-says}
 
 abbrev pub is_other : List ℕ → Bool

@@ -1,10 +1,11 @@
 -- What signing makes of a token: hints that are no permissions, and a token that is a locator.
+-- Laws: `others-cons`, `unsigned-is`, `signed-none`, `signed-some`.
 use Rattle.std.proofs.Common.{◌≡◌, ℕ, Bool, true, false, not, List, [], ◌∷◌, ◌++◌, if◌then◌else◌, Result, Ok, Err, inl, inr, refl, sym, ap, ◌∙◌, append_assoc}
 use Rattle.std.specs.Prelude.{filter}
 use Rattle.std.specs.List.{concat}
 use Rattle.std.proofs.lemmas.Bool.{cases_Bool}
 use Rattle.std.proofs.lemmas.List.{append-nil}
-use Rattle.keep_locator.specs.Reading.{read_of}
+use Rattle.keep_locator.specs.Parsing.{locator_of}
 use Rattle.keep_locator.specs.declared.locator.BadLocator.{BadLocator}
 use Rattle.keep_spec.specs.Locator.{is_locator, is_empty_block, locator_front, digest, is_permission_hint, hints, stripped}
 use Rattle.keep_spec.specs.SignedText.{changed, unsigned, permission_hint, signed}
@@ -39,7 +40,7 @@ read-ok false text locator e = cc e
 changed-locator : (f : List ℕ → List ℕ) (part : List ℕ) → is_locator part ≡ true → changed f part ≡ f part
 changed-locator f part is = ap (λ b. if b then f part else part) is
 
-pub signed-none : (part locator old out token secret : List ℕ) (expiry ttl : ℕ) → Ok locator ≡ read_of part → is_empty_block locator ≡ true → out ≡ old ++ unsigned locator
+pub signed-none : (part locator old out token secret : List ℕ) (expiry ttl : ℕ) → Ok locator ≡ locator_of part → is_empty_block locator ≡ true → out ≡ old ++ unsigned locator
     → out ≡ old ++ changed (signed token expiry ttl secret) part
 unfolding signed
 signed-none part locator old out token secret expiry ttl read none pushed =
@@ -49,7 +50,7 @@ signed-none part locator old out token secret expiry ttl read none pushed =
     ∙ ap (λ x. old ++ x) (sym (append-nil (unsigned locator)) ∙ sym (ap (λ b. unsigned locator ++ (if b then [] else hint)) none)
     ∙ ap (signed token expiry ttl secret) is.1 ∙ sym (changed-locator (signed token expiry ttl secret) part is.0))
 
-pub signed-some : (part locator old mid out token secret hash : List ℕ) (expiry ttl : ℕ) → Ok locator ≡ read_of part → is_empty_block locator ≡ false → mid ≡ old ++ unsigned locator
+pub signed-some : (part locator old mid out token secret hash : List ℕ) (expiry ttl : ℕ) → Ok locator ≡ locator_of part → is_empty_block locator ≡ false → mid ≡ old ++ unsigned locator
     → hash ≡ digest locator → out ≡ mid ++ permission_hint hash token expiry ttl secret → out ≡ old ++ changed (signed token expiry ttl secret) part
 unfolding signed
 signed-some part locator old mid out token secret hash expiry ttl read some pushed same hinted =

@@ -1,4 +1,4 @@
-// What the definitions of signatures mean, beside the calls.
+// Laws of the definitions that the calls cite. Each function does nothing: its contract is the law.
 ghost use Rattle.std.specs.Prelude.{◌≡◌, ◌++◌, ◌∷◌, ◌*◌, ◌^◌, ◌<◌, ◌≤◌, ◌⊎◌, [], not, true, false, filter, List, ℕ};
 ghost use Rattle.hex.specs.Hex.{encode_lower};
 ghost use Rattle.keep_spec.specs.Locator.{is_locator, is_empty_block, is_permission_hint, digest, stripped, hints, permission};
@@ -23,7 +23,7 @@ pub fn signed_locators_are_valid()
         → verdict (signed token expiry ttl secret text) token ttl secret reading ≡ Ok (record { digest = digest text; expiry = expiry }) }
 {}
 
-/// A locator that was unsigned is the same locator with its other hints alone.
+/// A locator without its permission hints is the same locator with its other hints alone.
 pub fn unsigned_locators_have_no_permission()
     ensures locator { (text : List ℕ) → is_locator text ≡ true → is_locator (unsigned text) ≡ true }
     ensures stripped { (text : List ℕ) → is_locator text ≡ true → stripped (unsigned text) ≡ stripped text }

@@ -1,6 +1,7 @@
-//! Signatures of locators: making them, checking them, and texts with other signatures.
+//! Signatures of locators: HMAC-SHA1 under the cluster's secret, made, checked, and put into and taken out of manifests.
 #![tactic(auto)]
 
+mod hint;
 mod laws;
 mod mac;
 mod signature;
@@ -9,6 +10,7 @@ mod tests;
 mod text;
 mod verification;
 
+pub use hint::push_permission_hint;
 pub use keep_manifest::BadManifest;
 pub use keep_spec::{Permission, Unverified, Verified};
 pub use laws::{

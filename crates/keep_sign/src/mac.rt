@@ -4,14 +4,14 @@ ghost use Rattle.keep_spec.specs.Sign.{padded_key, hmac};
 
 use sha1::Sha1;
 
-// How many bytes SHA-1 takes in at a time.
+// The block size of SHA-1, in bytes.
 const BLOCK: usize = 64;
 
 const INNER_PAD: u8 = 0x36;
 
 const OUTER_PAD: u8 = 0x5c;
 
-// The HMAC of a text that comes in pieces.
+// HMAC-SHA1 of a text that comes in pieces.
 #[derive(Drop)]
 pub struct MacState {
     inner: Sha1,
@@ -21,6 +21,7 @@ pub struct MacState {
 impl MacState {
     ghost use Rattle.keep_sign.specs.Keyed.{IsKeyed, HasPads};
 
+    // The HMAC under a key, of no text yet.
     pub fn new(key: &[u8]) -> MacState
         ensures { IsKeyed key.now [] result }
     {
@@ -31,6 +32,7 @@ impl MacState {
         }
     }
 
+    // Under a key of at most one block.
     fn of_short(key: &[u8]) -> MacState
         requires { length key.now ≤ 64 }
         ensures { HasPads key.now [] result }
@@ -42,12 +44,14 @@ impl MacState {
         MacState { inner, outer }
     }
 
+    // Appends to the text.
     pub fn update(&mut self, text: &[u8])
         ensures { (key before : List ℕ) → IsKeyed key before self.old → IsKeyed key (before ++ text.now) self.new }
     {
         self.inner.update(text);
     }
 
+    // The HMAC of the text.
     pub fn finalize(self) -> [u8; 20]
         ensures { (key text : List ℕ) → IsKeyed key text self → result ≡ hmac key text }
     {
@@ -57,7 +61,7 @@ impl MacState {
     }
 }
 
-// A key as one block, each byte changed by a pad.
+// A key filled with zeros to one block, each byte xored with a pad.
 fn padded(key: &[u8], pad: u8) -> [u8; BLOCK]
     requires { length key.now ≤ 64 }
     ensures { result ≡ padded_key key.now pad }
@@ -69,7 +73,7 @@ fn padded(key: &[u8], pad: u8) -> [u8; BLOCK]
     block
 }
 
-/// HMAC by SHA-1 of a text under a key of any length (RFC 2104).
+/// HMAC-SHA1 of a text under a key of any length, 20 bytes (RFC 2104). Takes no memory.
 pub fn hmac(key: &[u8], text: &[u8]) -> [u8; 20]
     ensures { result ≡ hmac key.now text.now }
 {

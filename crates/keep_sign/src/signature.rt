@@ -7,7 +7,7 @@ use crate::mac::MacState;
 use hex::encode_to_slice;
 use keep_spec::Digest;
 
-/// The 8 lower-case hexadecimal digits of a number, as an expiry in seconds has them in a permission hint.
+/// A number in 8 lower-case hexadecimal digits, as a permission hint has its expiry.
 pub fn hex8(number: u32) -> [u8; 8]
     ensures { result ≡ hex8 number }
 {
@@ -16,7 +16,7 @@ pub fn hex8(number: u32) -> [u8; 8]
     out
 }
 
-// The digits without the zeros in front, but for a last one.
+// The digits without leading zeros; of a zero one digit stays.
 fn without_zeros(digits: &[u8]) -> &[u8]
     ensures { result.now ≡ without_zeros digits.now }
 {
@@ -42,9 +42,9 @@ fn signed_hash(digest: &Digest, token: &[u8], expiry: u32, ttl: u32, secret: &[u
     mac.finalize()
 }
 
-/// The signature of a digest for a token: the lower-case digits of the HMAC, under the secret, of `digest@token@expiry@ttl`.
-/// The expiry is in seconds since 1970 and has 8 lower-case hexadecimal digits; the ttl is in seconds, in lower-case
-/// hexadecimal digits without zeros in front. The order and the separators are this project's rule.
+/// The signature of a digest for a token: the HMAC-SHA1, under the secret, of `digest@token@expiry@ttl`, in 40 lower-case hexadecimal
+/// digits. The expiry is in seconds since 1970, in 8 lower-case hexadecimal digits; the ttl is in seconds, in lower-case hexadecimal
+/// digits without leading zeros. The order and the separators are this project's own rule.
 #[tactic(auto, unfolding(keep_spec::specs::Sign::signature_of))]
 pub fn sign(digest: &Digest, token: &[u8], expiry: u32, ttl: u32, secret: &[u8]) -> [u8; 40]
     ensures { result ≡ signature_of digest.now token.now expiry ttl secret.now }

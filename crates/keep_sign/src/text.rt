@@ -3,18 +3,18 @@ ghost use Rattle.std.specs.Prelude.{◌≡◌, ◌++◌, [], if◌then◌else◌
 ghost use Rattle.keep_spec.specs.Locator.{is_permission_hint};
 ghost use Rattle.keep_spec.specs.Manifest.{manifest_of};
 ghost use Rattle.keep_spec.specs.Refusals.{bad};
-ghost use Rattle.keep_spec.specs.SignedText.{unsigned, permission_hint, signed, changed, with_locators};
-ghost use Rattle.keep_manifest.specs.Reading.{IsCause};
+ghost use Rattle.keep_spec.specs.SignedText.{unsigned, signed, changed, with_locators};
+ghost use Rattle.keep_manifest.specs.Causes.{IsCause};
 
-use crate::signature::{hex8, sign};
+use crate::hint::push_permission_hint;
 use keep_locator::{Locator, first_hint, is_permission_hint};
 use keep_manifest::{BadManifest, cut_token, read};
-use keep_spec::{Bytes, Digest, NoMemory};
+use keep_spec::{Bytes, NoMemory};
 use std::alloc::Global;
 
-/// The text of a manifest with each permission hint taken away, and one for the token put at the end of each locator but an empty
-/// block's. The expiry is in seconds since 1970, the ttl in seconds. All other bytes stay. A text that isn't a manifest is refused
-/// as reading it is.
+/// Signs a manifest for a token: takes each permission hint away, and puts one at the end of each locator but an empty block's. All
+/// other bytes stay. The expiry is in seconds since 1970, the ttl in seconds. A text that isn't a manifest is refused as `read` refuses
+/// it.
 pub fn sign_manifest(
     alloc: Global,
     text: &[u8],
@@ -31,16 +31,15 @@ pub fn sign_manifest(
     let _manifest = read(alloc, text)?;
     let mut out = Vec::with_capacity(alloc, text.len())?;
     let mut rest = text;
-    while let Some((part, end, behind)) = cut_token(rest) {
+    while let Some((part, end, after)) = cut_token(rest) {
         push_signed(&mut out, part, token, expiry, ttl, secret)?;
         out.extend_from_slice(end)?;
-        rest = behind;
+        rest = after;
     }
     Ok(Bytes::of(out))
 }
 
-/// The text of a manifest with each permission hint taken away. All other bytes stay. A text that isn't a manifest is refused as
-/// reading it is.
+/// Takes each permission hint of a manifest away. All other bytes stay. A text that isn't a manifest is refused as `read` refuses it.
 pub fn unsigned_manifest(alloc: Global, text: &[u8]) -> Result<Bytes, BadManifest>
     ensures manifest { OnOk result (IsSome (manifest_of text.now)) }
     ensures text { IfOk result (λ b. b ≡ with_locators unsigned text.now) }
@@ -49,15 +48,15 @@ pub fn unsigned_manifest(alloc: Global, text: &[u8]) -> Result<Bytes, BadManifes
     let _manifest = read(alloc, text)?;
     let mut out = Vec::with_capacity(alloc, text.len())?;
     let mut rest = text;
-    while let Some((part, end, behind)) = cut_token(rest) {
+    while let Some((part, end, after)) = cut_token(rest) {
         push_without_permissions(&mut out, part)?;
         out.extend_from_slice(end)?;
-        rest = behind;
+        rest = after;
     }
     Ok(Bytes::of(out))
 }
 
-// A token behind the text; where it is a locator, with one permission.
+// Appends a token; a locator with one permission hint, the last, or none where it is an empty block's.
 fn push_signed(
     out: &mut Vec<u8>,
     part: &[u8],
@@ -81,7 +80,7 @@ fn push_signed(
     Ok(())
 }
 
-// A token behind the text; where it is a locator, without its permissions.
+// Appends a token; a locator without its permission hints.
 fn push_without_permissions(out: &mut Vec<u8>, part: &[u8]) -> Result<(), NoMemory>
     ensures { OnOk result (out.new.items ≡ out.old.items ++ changed unsigned part.now) }
 {
@@ -93,20 +92,20 @@ fn push_without_permissions(out: &mut Vec<u8>, part: &[u8]) -> Result<(), NoMemo
     Ok(())
 }
 
-// A locator behind the text, without its permissions.
+// Appends a locator without its permission hints.
 fn push_unsigned(out: &mut Vec<u8>, locator: &Locator) -> Result<(), NoMemory>
     ensures { OnOk result (out.new.items ≡ out.old.items ++ unsigned locator.now) }
 {
     out.extend_from_slice(locator.stripped())?;
     let mut rest = locator.hint_text();
-    while let Some((hint, behind)) = first_hint(rest) {
+    while let Some((hint, after)) = first_hint(rest) {
         push_other(out, hint)?;
-        rest = behind;
+        rest = after;
     }
     Ok(())
 }
 
-// A hint behind the text, where it is no permission.
+// Appends a hint, unless it is a permission hint.
 fn push_other(out: &mut Vec<u8>, hint: &[u8]) -> Result<(), NoMemory>
     ensures { OnOk result (out.new.items
         ≡ out.old.items ++ (if is_permission_hint hint.now then [] else hint.now)) }
@@ -115,24 +114,5 @@ fn push_other(out: &mut Vec<u8>, hint: &[u8]) -> Result<(), NoMemory>
         return Ok(());
     }
     out.extend_from_slice(hint)?;
-    Ok(())
-}
-
-#[tactic(auto, unfolding(keep_spec::specs::SignedText::permission_hint))]
-fn push_permission_hint(
-    out: &mut Vec<u8>,
-    digest: &Digest,
-    token: &[u8],
-    expiry: u32,
-    ttl: u32,
-    secret: &[u8],
-) -> Result<(), NoMemory>
-    ensures { OnOk result (out.new.items
-        ≡ out.old.items ++ permission_hint digest.now token.now expiry ttl secret.now) }
-{
-    out.extend_from_slice(b"+A")?;
-    out.extend_from_slice(&sign(digest, token, expiry, ttl, secret))?;
-    out.extend_from_slice(b"@")?;
-    out.extend_from_slice(&hex8(expiry))?;
     Ok(())
 }

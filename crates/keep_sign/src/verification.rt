@@ -6,11 +6,11 @@ use crate::signature::sign;
 use keep_locator::Locator;
 use keep_spec::{Unverified, Verified};
 
-const NANOSECONDS: u64 = 1_000_000_000;
+const NANOSECONDS_PER_SECOND: u64 = 1_000_000_000;
 
-/// What a locator's signature was made for, where it is valid for a token at a reading in nanoseconds since 1970. The ttl is in
-/// seconds. Tested in this order: whether there is exactly one permission hint, whether its expiry isn't before the reading,
-/// whether the signature is the token's.
+/// Checks a locator's signature for a token at a clock reading, and returns the digest and the expiry that it was made for. The reading
+/// is in nanoseconds since 1970, the ttl in seconds. The refusals are tested in this order: `Missing` unless there is exactly one
+/// permission hint, `Expired` where its expiry is before the reading, `Invalid` where the signature isn't the one that `sign` makes.
 pub fn verify(
     locator: &Locator,
     token: &[u8],
@@ -24,7 +24,7 @@ pub fn verify(
         return Err(Unverified::Missing);
     };
     let expiry = permission.expiry;
-    if u64::from(expiry) * NANOSECONDS < reading {
+    if u64::from(expiry) * NANOSECONDS_PER_SECOND < reading {
         return Err(Unverified::Expired { expiry });
     }
     let digest = locator.digest();

@@ -1,6 +1,6 @@
 use Rattle.std.proofs.Common.{◌∷◌, take, sym, ap, ◌∙◌, arith}
 use Rattle.keep_spec.specs.Locator.{cut_before_plus}
-use Rattle.keep_locator.proofs.Grammar.{cut-first, cut-none}
+use Rattle.keep_locator.proofs.GrammarStates.{cut-first, cut-none}
 use Rattle.keep_locator.proofs.hint.first_hint.Goals as goal
 
 pub returns-then-text-eq0-clause-hints : goal.returns-then-text-eq0-clause-hints

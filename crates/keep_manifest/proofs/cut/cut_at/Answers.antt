@@ -1,6 +1,6 @@
 use Rattle.std.proofs.Common.{◌≡◌, ◌+◌, ◌-◌, suc, take, drop, length, refl, ◌∙◌, ap, sym, Some, add-one, arith}
 use Rattle.std.proofs.lemmas.Slice.{between_to_end}
-use Rattle.keep_manifest.proofs.Cuts.{cut_at_found, cut_at_none}
+use Rattle.keep_manifest.proofs.SplitText.{cut_at_found, cut_at_none}
 use Rattle.keep_manifest.proofs.cut.cut_at.Goals as goal
 
 pub returns-then-b-byte : goal.returns-then-b-byte

@@ -26,8 +26,8 @@ returns-clause-end c =
     let long : length c.split_at.result.0.now ≡ c.token_len.result = ap length c.split_at.ensures.front ∙ length-take c.token_len.result text ∙ omega arith in
     c.split_at-2.ensures.front ∙ ap (λ n. take n ended) one ∙ take_min 1 ended ∙ ap (take 1) (c.split_at.ensures.back ∙ ap (λ n. drop n text) (sym long))
 
-pub returns-clause-behind : goal.returns-clause-behind
-returns-clause-behind c =
+pub returns-clause-rest : goal.returns-clause-rest
+returns-clause-rest c =
     let text = c.args.text.now in
     let ended = c.split_at.result.1.now in
     let one : c.min.result ≡ min 1 (length ended) = omega arith in

@@ -1,7 +1,7 @@
 use Rattle.std.proofs.Common.{◌≡◌, ◌∙◌, ap}
 use Rattle.std.specs.List.{list_all}
 use Rattle.keep_manifest.specs.Good.{is_good_stream, is_good_manifest}
-use Rattle.keep_manifest.proofs.WellFormed.{good_tests}
+use Rattle.keep_manifest.proofs.GoodManifests.{good_tests}
 use Rattle.keep_manifest.proofs.good.is_good.Goals as goal
 
 pub returns : goal.returns

@@ -1,5 +1,5 @@
 use Rattle.std.proofs.Common.{◌≡◌, ◌*◌, ◌^◌, ◌≤◌, drop}
-use Rattle.keep_manifest.proofs.Totals.{with_total}
+use Rattle.keep_manifest.proofs.TotalSizes.{with_total}
 use Rattle.keep_manifest.proofs.good.total_of.Given as goal
 
 -- the total so far and that of the rest are that of all

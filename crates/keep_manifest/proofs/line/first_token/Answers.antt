@@ -1,5 +1,5 @@
 use Rattle.std.proofs.Common.{sym}
-use Rattle.keep_manifest.proofs.Cuts.{split_found, split_none, length_found}
+use Rattle.keep_manifest.proofs.SplitText.{split_found, split_none, length_found}
 use Rattle.keep_manifest.proofs.line.first_token.Goals as goal
 
 pub returns-in-Some-clause-tokens : goal.returns-in-Some-clause-tokens

@@ -1,5 +1,5 @@
-use Rattle.keep_manifest.proofs.Written.{written_reads}
-use Rattle.keep_manifest.proofs.WellFormed.{good_is}
+use Rattle.keep_manifest.proofs.ReadAgain.{written_reads}
+use Rattle.keep_manifest.proofs.GoodManifests.{good_is}
 use Rattle.keep_manifest.proofs.writing.write.Goals as goal
 
 pub returns-clause-read_again : goal.returns-clause-read_again

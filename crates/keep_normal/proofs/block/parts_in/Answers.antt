@@ -4,8 +4,8 @@ use Rattle.keep_spec.specs.Locator.{is_locator, size}
 use Rattle.keep_spec.specs.Manifest.{total_size}
 use Rattle.keep_normal.specs.declared.block.Block.{Block}
 use Rattle.keep_normal.specs.Files.{parts_in}
-use Rattle.keep_normal.proofs.Places.{length-placed, block_at, at_any, all_read}
-use Rattle.keep_normal.proofs.Parts.{parts_skip, parts_turn, parts_done}
+use Rattle.keep_normal.proofs.BlockPlaces.{length-placed, block_at, at_any, all_read}
+use Rattle.keep_normal.proofs.SpanParts.{parts_skip, parts_turn, parts_done}
 use Rattle.keep_normal.proofs.block.parts_in.Goals as goal
 
 abbrev no_block : Block

@@ -1,5 +1,5 @@
 use Rattle.std.proofs.Common.{◌∙◌, ◌++◌, ◌∷◌, [], ap}
-use Rattle.keep_normal.proofs.Gathered.{put_after}
+use Rattle.keep_normal.proofs.Grouping.{put_after}
 use Rattle.keep_normal.proofs.groups.put.Goals as goal
 
 pub returns-clause-entries : goal.returns-clause-entries

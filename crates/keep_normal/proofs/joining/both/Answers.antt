@@ -1,5 +1,5 @@
 use Rattle.std.proofs.Common.{arith}
-use Rattle.keep_normal.proofs.Sounds.{sound_is, touch_is}
+use Rattle.keep_normal.proofs.SoundParts.{sound_is, touch_is}
 use Rattle.keep_normal.proofs.joining.both.Goals as goal
 
 pub overflow_add-result : goal.overflow_add-result

@@ -1,8 +1,8 @@
 use Rattle.std.proofs.Common.{true, false, [], ◌∷◌, ◌∙◌, sym, append_assoc, ap, ◌++◌}
 use Rattle.keep_normal.specs.Files.{touch, both_parts}
 use Rattle.keep_normal.specs.Sound.{are_sound}
-use Rattle.keep_normal.proofs.Joins.{behind_two}
-use Rattle.keep_normal.proofs.Sounds.{behind_sound}
+use Rattle.keep_normal.proofs.JoinedNeighbours.{behind_two}
+use Rattle.keep_normal.proofs.SoundParts.{behind_sound}
 use Rattle.keep_normal.proofs.joining.join_part.Goals as goal
 
 pub returns-then-touch-clause-joined : goal.returns-then-touch-clause-joined

@@ -1,6 +1,6 @@
 use Rattle.std.proofs.Common.{true, false, [], ◌∷◌, ◌∙◌, sym, append_assoc, ap, ◌++◌, rules}
 use Rattle.keep_normal.specs.Normal.{meet, both_spans}
-use Rattle.keep_normal.proofs.Joins.{behind_two}
+use Rattle.keep_normal.proofs.JoinedNeighbours.{behind_two}
 use Rattle.keep_normal.proofs.joining.join_span.Goals as goal
 
 pub returns-then-last-span : goal.returns-then-last-span

@@ -4,8 +4,8 @@ use Rattle.std.specs.List.{flat_map}
 use Rattle.std.proofs.lemmas.List.Concat.{flat_map-append}
 use Rattle.keep_normal.specs.Files.{touch, both_parts, joined_parts}
 use Rattle.keep_normal.specs.Joined.{joined_behind}
-use Rattle.keep_normal.proofs.Joins.{joined_along}
-use Rattle.keep_normal.proofs.Sounds.{part_joins}
+use Rattle.keep_normal.proofs.JoinedNeighbours.{joined_along}
+use Rattle.keep_normal.proofs.SoundParts.{part_joins}
 use Rattle.keep_normal.proofs.listing.file_of.Goals as goal
 
 pub loop-piece-preserved : goal.loop-piece-preserved

@@ -1,14 +1,14 @@
 use Rattle.std.proofs.Common.{◌≡◌, ℕ, ◌∙◌, ap, sym, subst, map, List}
 use Rattle.std.specs.Prelude.{◌↔◌, All, Contains}
 use Rattle.std.specs.List.Sorted.{IsStrictlySortedBy}
-use Rattle.keep_manifest.proofs.WellFormed.{good_is}
+use Rattle.keep_manifest.proofs.GoodManifests.{good_is}
 use Rattle.keep_normal.specs.Files.{files, file_of, paths_named, parts_named}
 use Rattle.keep_normal.specs.Grouped.{byte_order}
 use Rattle.keep_normal.specs.Sound.{are_sound}
 use Rattle.keep_normal.specs.declared.part.FileParts.{FileParts}
-use Rattle.keep_normal.proofs.Again.{files-ascending}
+use Rattle.keep_normal.proofs.NormalFiles.{files-ascending}
 use Rattle.keep_normal.proofs.FileProperties.{files-paths, files-parts}
-use Rattle.keep_normal.proofs.Gathered.{all_values}
+use Rattle.keep_normal.proofs.Grouping.{all_values}
 use Rattle.keep_normal.proofs.SoundFiles.{pieces_sound}
 use Rattle.keep_normal.proofs.listing.files.Goals as goal
 

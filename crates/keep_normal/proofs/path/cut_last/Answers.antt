@@ -1,7 +1,7 @@
 use Rattle.std.proofs.Common.{◌≡◌, ◌+◌, ◌-◌, ◌∙◌, ap, drop, length, arith}
 use Rattle.std.proofs.lemmas.List.{take_all, length-drop}
 use Rattle.keep_normal.specs.Normal.{cut_last}
-use Rattle.keep_normal.proofs.Paths.{cut_last-found}
+use Rattle.keep_normal.proofs.LastSlash.{cut_last-found}
 use Rattle.keep_normal.proofs.path.cut_last.Goals as goal
 
 pub returns-then-path-at-eq47 : goal.returns-then-path-at-eq47

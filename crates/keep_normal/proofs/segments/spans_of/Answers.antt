@@ -1,8 +1,8 @@
 use Rattle.std.proofs.Common.{◌∙◌, ap, take}
 use Rattle.keep_normal.specs.Joined.{joined_behind}
 use Rattle.keep_normal.specs.Normal.{meet, both_spans, span_in, spans}
-use Rattle.keep_normal.proofs.Joins.{joined_more}
-use Rattle.keep_normal.proofs.Sounds.{span_joins}
+use Rattle.keep_normal.proofs.JoinedNeighbours.{joined_more}
+use Rattle.keep_normal.proofs.SoundParts.{span_joins}
 use Rattle.keep_normal.proofs.segments.spans_of.Goals as goal
 
 pub loop-part-preserved : goal.loop-part-preserved

@@ -2,7 +2,7 @@ use Rattle.std.proofs.Common.{sym, ◌∙◌, ap, ◌+◌, ◌-◌, take, length
 use Rattle.std.specs.List.{prefix_len}
 use Rattle.std.specs.Char.{is_ascii_digit}
 use Rattle.std.proofs.lemmas.List.{take_all, length-drop}
-use Rattle.keep_normal.proofs.Strips.{stripped-is}
+use Rattle.keep_normal.proofs.StrippedLocators.{stripped-is}
 use Rattle.keep_normal.proofs.stripping.stripped.Goals as goal
 
 pub returns : goal.returns

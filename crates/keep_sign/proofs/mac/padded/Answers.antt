@@ -1,5 +1,5 @@
 use Rattle.std.proofs.Common.{arith}
-use Rattle.keep_sign.proofs.Pads.{padded_is}
+use Rattle.keep_sign.proofs.PaddedKeys.{padded_is}
 use Rattle.keep_sign.proofs.mac.padded.Goals as goal
 
 pub returns : goal.returns

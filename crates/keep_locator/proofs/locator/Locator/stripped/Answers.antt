@@ -8,8 +8,8 @@ pub slice_bounds-result-end : goal.slice_bounds-result-end
 slice_bounds-result-end c =
     let text = c.self.inside.text.now in
     let within = (locator_parts text c.self.invariant.whole).within in
-    sym (length-take-le c.self.inside.size_end text (omega (arith, within, c.self.invariant.behind)))
+    sym (length-take-le c.self.inside.size_end text (omega (arith, within, c.self.invariant.ends)))
 
 pub returns : goal.returns
 unfolding stripped
-returns c = ap (λ n. take n c.self.inside.text.now) c.self.invariant.behind ∙ ap stripped c.self.view_is
+returns c = ap (λ n. take n c.self.inside.text.now) c.self.invariant.ends ∙ ap stripped c.self.view_is

@@ -6,7 +6,7 @@ use Rattle.keep_spec.specs.Locator.{size}
 use Rattle.keep_spec.specs.Manifest.{total_size}
 use Rattle.keep_normal.specs.Grouped.{byte_order}
 use Rattle.keep_normal.specs.Normal.{start_at}
-use Rattle.keep_normal.proofs.Starts.{start-push, total-push}
+use Rattle.keep_normal.proofs.BlockStarts.{start-push, total-push}
 use Rattle.keep_normal.proofs.blocks.Blocks.push.Goals as goal
 
 pub returns-clause-known : goal.returns-clause-known

@@ -1,5 +1,5 @@
 use Rattle.std.proofs.Common.{◌∙◌, sym, arith}
-use Rattle.keep_normal.proofs.Starts.{start-le}
+use Rattle.keep_normal.proofs.BlockStarts.{start-le}
 use Rattle.keep_normal.proofs.blocks.Blocks.start.Goals as goal
 
 pub returns-in-Some-clause-bound : goal.returns-in-Some-clause-bound
