@@ -6,9 +6,9 @@ use Rattle.keep_event.specs.Store.{Cut, cut, onto, name_cmp, find, put, without,
 use Rattle.keep_event.specs.declared.names.Name.{Name}
 use Rattle.keep_event.specs.declared.names.Stored.{Stored}
 use Rattle.keep_store.specs.Tree.{entries, order_after}
-use Rattle.keep_store.specs.declared.tree_node.NameTree.{NameTree}
-use Rattle.keep_store.specs.declared.tree_node.Node.{Node}
-use Rattle.keep_store.specs.declared.tree_node.Node.TheVariants.{Fork}
+use Rattle.keep_store.specs.declared.name_tree.NameTree.{NameTree}
+use Rattle.keep_store.specs.declared.name_tree.Node.{Node}
+use Rattle.keep_store.specs.declared.name_tree.Node.TheVariants.{Fork}
 use Rattle.std.specs.declared.alloc.Global.{Global}
 use Rattle.keep_store.proofs.Order.{order, past-equal, past-greater, nothing-ascends, all-map, tail-ascends, head-below, cons-ascends, ascending-put, ascending-without}
 use Rattle.keep_store.proofs.Cuts.{within, step, cut-below, cut-above}

@@ -5,8 +5,8 @@ use Rattle.std.specs.declared.cmp.Ordering.TheVariants.{Less}
 use Rattle.keep_event.specs.Store.{name_cmp}
 use Rattle.keep_event.specs.declared.names.Name.{Name}
 use Rattle.keep_event.specs.declared.names.Stored.{Stored}
-use Rattle.keep_store.specs.declared.tree_node.Node.{Node}
-use Rattle.keep_store.specs.declared.tree_node.Node.TheVariants.{Leaf, Fork}
+use Rattle.keep_store.specs.declared.name_tree.Node.{Node}
+use Rattle.keep_store.specs.declared.name_tree.Node.TheVariants.{Leaf, Fork}
 
 -- those below, the node's own, those above
 abbrev pub entries : Node → List (Name × Stored)

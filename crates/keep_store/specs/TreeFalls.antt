@@ -1,9 +1,9 @@
 -- Each side of a fork has fewer entries than the fork.
 use Rattle.std.specs.Prelude.{◌≤◌, max, ◌∷◌, length}
 use Rattle.std.proofs.Common.{arith, length-append}
-use Rattle.keep_store.specs.declared.tree_node.Node.{Node}
-use Rattle.keep_store.specs.declared.tree_node.Node.TheVariants.{Leaf, Fork}
-use Rattle.keep_store.specs.declared.tree_node.NameTree.TheDeep.{deep-Node}
+use Rattle.keep_store.specs.declared.name_tree.Node.{Node}
+use Rattle.keep_store.specs.declared.name_tree.Node.TheVariants.{Leaf, Fork}
+use Rattle.keep_store.specs.declared.name_tree.NameTree.TheDeep.{deep-Node}
 use Rattle.keep_store.specs.Tree.{entries}
 
 -- no side is deeper than the node has entries

@@ -2,14 +2,15 @@
 ghost use Rattle.std.specs.Prelude.{◌≡◌, Some, IfOk, [], option_map, option_copied, take, map};
 ghost use Rattle.keep_event.specs.Store.{above, held_of, size_of, AreAscending};
 ghost use Rattle.keep_store.specs.Names.{IsCounted};
+ghost use Rattle.keep_store.specs.Plans.{FollowsPlan, new_plan};
 
-use crate::tree_node::{Entry, NameTree};
+use crate::name_tree::{Entry, NameTree};
 use crate::{Failed, Store, StoreError};
 use keep_event::{Held, Metadata, Name, Stored};
 use keep_spec::NoMemory;
 use std::alloc::Global;
 
-/// A store in memory. The calls that answer `Failed` alone take no memory.
+/// A store in memory, with a list of the calls that are to fail. The calls whose only error is `Failed` take no memory.
 #[derive(Drop)]
 pub struct MemoryStore {
     names: NameTree,
@@ -21,11 +22,12 @@ pub struct MemoryStore {
 }
 
 impl MemoryStore {
-    /// An empty store whose n-th call fails where n is in the list, counted from 1.
+    /// An empty store with note 0, whose n-th call fails exactly where n is in the list; calls of all kinds are counted together, from 1.
     pub fn new(alloc: Global, failing: Vec<u64>) -> MemoryStore
         ensures empty { ⟦<MemoryStore as Store>⟧.held result ≡ Some [] }
         ensures note { ⟦<MemoryStore as Store>⟧.noted result ≡ Some 0 }
         ensures faults { ⟦<MemoryStore as Store>⟧.faults result ≡ 0 }
+        ensures plan { ⟦<MemoryStore as Store>⟧.fault_plan result ≡ Some (new_plan failing.items) }
     {
         MemoryStore {
             names: NameTree::new(),
@@ -37,10 +39,11 @@ impl MemoryStore {
         }
     }
 
-    // Whether this call is to fail.
+    // Counts a call, and says whether it is to fail.
     fn is_failing(&mut self) -> bool
         ensures same { (self.new.names ≡ self.old.names) × (self.new.round ≡ self.old.round) }
         ensures cause { IsCounted self.old.faults self.new.faults result }
+        ensures planned { FollowsPlan (⟦<MemoryStore as Store>⟧.fault_plan self.old) (⟦<MemoryStore as Store>⟧.fault_plan self.new) self.old.faults self.new.faults result }
     {
         self.calls = self.calls.saturating_add(1);
         if self.failing.contains(&self.calls) {
@@ -58,11 +61,13 @@ impl Store for MemoryStore {
 
     ghost faults = { λ s. s.faults };
 
+    ghost fault_plan = { λ s. Some (record { failing = s.failing.items; calls = s.calls }) };
+
     fn get(&mut self, name: &Name) -> Result<Option<Stored>, StoreError> {
         if self.is_failing() {
             return Err(StoreError::Failed);
         }
-        match found(self.alloc, self.names.get(name)) {
+        match copy_of(self.alloc, self.names.get(name)) {
             Ok(stored) => Ok(stored),
             Err(NoMemory) => Err(StoreError::NoMemory),
         }
@@ -83,7 +88,7 @@ impl Store for MemoryStore {
         if self.is_failing() {
             return Err(StoreError::Failed);
         }
-        match listed(self.alloc, &self.names, after, limit) {
+        match names_above(self.alloc, &self.names, after, limit) {
             Ok(names) => Ok(names),
             Err(NoMemory) => Err(StoreError::NoMemory),
         }
@@ -93,7 +98,7 @@ impl Store for MemoryStore {
         if self.is_failing() {
             return Err(Failed);
         }
-        Ok(sized(self.names.get(name)))
+        Ok(metadata_of(self.names.get(name)))
     }
 
     fn touch(&mut self, name: &Name, mtime: u64) -> Result<bool, Failed> {
@@ -133,8 +138,8 @@ impl Store for MemoryStore {
     }
 }
 
-// A copy of what is kept.
-pub(crate) fn found(alloc: Global, stored: Option<&Stored>) -> Result<Option<Stored>, NoMemory>
+// A copy of what is stored.
+pub(crate) fn copy_of(alloc: Global, stored: Option<&Stored>) -> Result<Option<Stored>, NoMemory>
     ensures { IfOk result (λ o. o ≡ option_copied stored.entry) }
 {
     match stored {
@@ -146,8 +151,8 @@ pub(crate) fn found(alloc: Global, stored: Option<&Stored>) -> Result<Option<Sto
     }
 }
 
-// The names of a tree above a name, or all, up to the limit.
-pub(crate) fn listed(
+// The first names of a tree above a name, or of all.
+pub(crate) fn names_above(
     alloc: Global,
     names: &NameTree,
     after: Option<Name>,
@@ -161,7 +166,8 @@ pub(crate) fn listed(
     Ok(out)
 }
 
-pub(crate) fn sized(stored: Option<&Stored>) -> Option<Metadata>
+// The time and the size of what is stored.
+pub(crate) fn metadata_of(stored: Option<&Stored>) -> Option<Metadata>
     ensures { result ≡ option_map size_of (option_copied stored.entry) }
 {
     let stored = stored?;

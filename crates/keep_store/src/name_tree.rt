@@ -1,16 +1,121 @@
 // Names in a balanced search tree, each with what is stored under it.
-ghost use Rattle.std.specs.Prelude.{◌≡◌, ◌≤◌, ◌++◌, ◌∷◌, [], OnOk, length, map, take, option_copied, MatchOption};
-ghost use Rattle.keep_event.specs.Store.{cut, find, put, without, above, held_of, touch as touched, rename as renamed, IsAscending};
+ghost use Rattle.std.specs.Prelude.{◌≡◌, ◌≤◌, ◌++◌, ◌∷◌, [], IfOk, OnOk, length, map, take, option_copied, MatchOption};
+ghost use Rattle.keep_event.specs.Store.{cut, find, put, stored, with_time, without, above, held_of, touch as touched, rename as renamed, IsAscending};
 ghost use Rattle.keep_store.specs.Names.{has, named};
 ghost use Rattle.keep_store.specs.Tree.{entries, order_after};
 
-use crate::tree_node::{Entry, NameTree, Node};
 use keep_event::{Held, Name, Stored};
-use keep_spec::NoMemory;
+use keep_spec::{Bytes, NoMemory};
+use std::alloc::Global;
 use std::cmp::Ordering;
+use std::marker::Model;
 use std::mem;
 
+/// Names in their order, each once and with what is stored under it. It is seen as the list of these.
+/// Each call walks down one path of the tree, whose sides are kept at nearly the same height. An entry brings the memory that it takes, so that only its making can want any: what is taken out under one name can be put in under another.
+#[cycle(tree)]
+#[derive(Drop)]
+pub(crate) struct NameTree {
+    pub(crate) node: Node,
+}
+
+/// A node of the tree.
+#[cycle(tree)]
+#[derive(Drop)]
+pub(crate) enum Node {
+    Leaf,
+    // The entries below, an entry, the height, and the entries above.
+    Fork(Box<NameTree>, (Name, Stored), u64, Box<NameTree>),
+}
+
+impl Model for NameTree {
+    ghost use Rattle.std.specs.Prelude.{List, length};
+    ghost use Rattle.keep_event.specs.declared.names.Name.{Name as TheName};
+    ghost use Rattle.keep_event.specs.declared.names.Stored.{Stored as TheStored};
+
+    ghost Value = { List (TheName × TheStored) };
+
+    ghost use Rattle.keep_event.specs.Store.{IsAscending};
+    ghost use Rattle.keep_store.specs.Tree.{entries};
+
+    ghost view = { λ t. entries t.node };
+
+    ghost invariant = { λ t. IsAscending (entries t.node) };
+
+    ghost size = { length };
+
+    ghost use Rattle.keep_store.specs.TreeFalls.{sides-shorter};
+
+    ghost size_decreases = { λ t h. sides-shorter t.node };
+}
+
+/// A name with what is stored under it, and the memory that it takes in a tree.
+#[derive(Drop)]
+pub(crate) struct Entry {
+    pub(crate) item: (Name, Stored),
+    pub(crate) below: Box<NameTree>,
+    pub(crate) above: Box<NameTree>,
+}
+
+impl Model for Entry {
+    ghost use Rattle.std.specs.Prelude.{◌≡◌, []};
+    ghost use Rattle.keep_event.specs.declared.names.Name.{Name as TheName};
+    ghost use Rattle.keep_event.specs.declared.names.Stored.{Stored as TheStored};
+
+    ghost Value = { TheName × TheStored };
+
+    ghost view = { λ e. e.item };
+
+    ghost invariant = { λ e. (e.below.value ≡ []) × (e.above.value ≡ []) };
+}
+
+impl Entry {
+    /// An entry with a copy of the bytes.
+    pub(crate) fn new(
+        alloc: Global,
+        name: &Name,
+        mtime: u64,
+        bytes: &[u8],
+    ) -> Result<Entry, NoMemory>
+        ensures { IfOk result (λ e. e ≡ (name.now, stored mtime bytes.now)) }
+    {
+        let bytes = Bytes::of(Vec::from_slice(alloc, bytes)?);
+        let below = no_entries(alloc)?;
+        let above = no_entries(alloc)?;
+        Ok(Entry {
+            item: (*name, Stored { mtime, bytes }),
+            below,
+            above,
+        })
+    }
+
+    /// The same bytes under another name and with another time.
+    pub(crate) fn renamed(mut self, to: &Name, time: u64) -> Entry
+        ensures { result ≡ (to.now, with_time time self.1) }
+    {
+        self.item.0 = *to;
+        self.item.1.mtime = time;
+        self
+    }
+}
+
 impl NameTree {
+    /// A tree without names. It takes no memory.
+    pub(crate) fn new() -> NameTree
+        ensures { result ≡ [] }
+    {
+        NameTree { node: Node::Leaf }
+    }
+
+    // How many nodes the longest path has. It steers the balance, and no clause speaks of it.
+    pub(crate) fn height(&self) -> u64 {
+        match self.node {
+            Node::Leaf => 0,
+            Node::Fork(_, _, height, _) => height,
+        }
+    }
+
+    // The tree of a node.
     fn of(node: Node) -> NameTree
         requires { IsAscending (entries node) }
         ensures { result ≡ entries node }
@@ -18,7 +123,7 @@ impl NameTree {
         NameTree { node }
     }
 
-    // Takes all entries out.
+    // Takes all entries out, and leaves none.
     fn take(&mut self) -> Node
         ensures entries { entries result ≡ self.old }
         ensures ascending { IsAscending (entries result) }
@@ -27,6 +132,7 @@ impl NameTree {
         mem::replace(&mut self.node, Node::Leaf)
     }
 
+    /// What is stored under the name.
     pub(crate) fn get(&self, name: &Name) -> Option<&Stored>
         ensures { option_copied result ≡ find name.now self.now }
     {
@@ -40,7 +146,7 @@ impl NameTree {
         }
     }
 
-    /// Puts the entry in, in the place of what has its name.
+    /// Puts the entry in, replacing any existing entry of its name.
     pub(crate) fn put(&mut self, entry: Entry)
         ensures { self.new ≡ put entry.0 entry.1 self.old }
     {
@@ -51,7 +157,7 @@ impl NameTree {
                     let was = below.height();
                     below.put(entry);
                     let same = below.height() == was;
-                    *self = NameTree::of(settled(below, item, height, above, same));
+                    *self = NameTree::of(rebalanced(below, item, height, above, same));
                 }
                 Ordering::Equal => {
                     *self = NameTree::of(Node::Fork(below, entry.item, height, above));
@@ -60,13 +166,13 @@ impl NameTree {
                     let was = above.height();
                     above.put(entry);
                     let same = above.height() == was;
-                    *self = NameTree::of(settled(below, item, height, above, same));
+                    *self = NameTree::of(rebalanced(below, item, height, above, same));
                 }
             },
         }
     }
 
-    /// Takes out what has the name.
+    /// Removes the name and returns its entry, with its memory.
     pub(crate) fn remove(&mut self, name: &Name) -> Option<Entry>
         ensures value { result ≡ (cut name.now self.old).at }
         ensures after { self.new ≡ without name.now self.old }
@@ -78,11 +184,11 @@ impl NameTree {
                     let was = below.height();
                     let gone = below.remove(name);
                     let same = below.height() == was;
-                    *self = NameTree::of(settled(below, item, height, above, same));
+                    *self = NameTree::of(rebalanced(below, item, height, above, same));
                     gone
                 }
                 Ordering::Equal => {
-                    let (node, below, above) = joined(below, above);
+                    let (node, below, above) = merged(below, above);
                     *self = NameTree::of(node);
                     Some(Entry { item, below, above })
                 }
@@ -90,20 +196,20 @@ impl NameTree {
                     let was = above.height();
                     let gone = above.remove(name);
                     let same = above.height() == was;
-                    *self = NameTree::of(settled(below, item, height, above, same));
+                    *self = NameTree::of(rebalanced(below, item, height, above, same));
                     gone
                 }
             },
         }
     }
 
-    // Takes out the first entry.
-    fn take_first(&mut self) -> Option<Entry>
+    // Removes the first entry and returns it.
+    fn pop_first(&mut self) -> Option<Entry>
         ensures { MatchOption result ((self.old ≡ []) × (self.new ≡ [])) (λ e. self.old ≡ e ∷ self.new) }
     {
         match self.take() {
             Node::Leaf => None,
-            Node::Fork(mut below, item, _, mut above) => match below.take_first() {
+            Node::Fork(mut below, item, _, mut above) => match below.pop_first() {
                 Some(first) => {
                     *self = NameTree::of(balanced(below, item, above));
                     Some(first)
@@ -116,7 +222,7 @@ impl NameTree {
         }
     }
 
-    /// Gives what has the name another time, in nanoseconds since 1970. False: nothing has it.
+    /// Sets the time of what is stored under the name, in nanoseconds since 1970. False: nothing is stored there.
     pub(crate) fn touch(&mut self, name: &Name, mtime: u64) -> bool
         ensures value { result ≡ has name.now self.old }
         ensures after { self.new ≡ touched name.now mtime self.old (find name.now self.old) }
@@ -144,7 +250,7 @@ impl NameTree {
         }
     }
 
-    /// Gives what has the name another name, in the place of what has that, and another time. It takes no memory. False: nothing has it.
+    /// Moves what is stored under a name to another name, replacing any existing entry, and sets its time. It takes no memory. False: nothing is stored under the first.
     pub(crate) fn rename(&mut self, from: &Name, to: &Name, mtime: u64) -> bool
         ensures value { result ≡ has from.now self.old }
         ensures after { self.new ≡ renamed from.now to.now mtime self.old (find from.now self.old) }
@@ -156,7 +262,7 @@ impl NameTree {
         true
     }
 
-    /// Lists the names above a name, or all, up to the limit.
+    /// Appends the names above a name, or all, ascending, until the list has `limit` names. After NoMemory a part of them may stand there.
     pub(crate) fn list(
         &self,
         after: Option<&Name>,
@@ -185,7 +291,17 @@ impl NameTree {
     }
 }
 
-// How a name stands against another. None is below all.
+// A box without entries, for a side of a node.
+fn no_entries(alloc: Global) -> Result<Box<NameTree>, NoMemory>
+    ensures { IfOk result (λ b. b.value ≡ []) }
+{
+    match Box::new(alloc, NameTree::new()) {
+        Ok(side) => Ok(side),
+        Err(_) => Err(NoMemory),
+    }
+}
+
+// The order of a name against another; None is below all names.
 fn order_of(after: Option<&Name>, name: &Name) -> Ordering
     ensures { result ≡ order_after (named after.entry) name.now }
 {
@@ -195,7 +311,7 @@ fn order_of(after: Option<&Name>, name: &Name) -> Ordering
     }
 }
 
-// Lists one name, if the limit allows.
+// Appends one name to the list, unless the limit is reached.
 fn list_one(item: &(Name, Stored), limit: usize, out: &mut Vec<Held>) -> Result<(), NoMemory>
     requires { length out.old.items ≤ limit }
     ensures { OnOk result (out.new.items ≡ take limit (out.old.items ++ held_of item.now ∷ [])) }
@@ -214,8 +330,8 @@ fn list_one(item: &(Name, Stored), limit: usize, out: &mut Vec<Held>) -> Result<
     Ok(())
 }
 
-// A tree of two, and two boxes that it doesn't want.
-fn joined(
+// The tree of two sides, and the two boxes that it doesn't need.
+fn merged(
     mut below: Box<NameTree>,
     mut above: Box<NameTree>,
 ) -> (Node, Box<NameTree>, Box<NameTree>)
@@ -223,7 +339,7 @@ fn joined(
     ensures entries { entries result.0 ≡ below.value ++ above.value }
     ensures empty { (result.1.value ≡ []) × (result.2.value ≡ []) }
 {
-    match above.take_first() {
+    match above.pop_first() {
         Some(first) => (balanced(below, first.item, above), first.below, first.above),
         None => {
             let node = below.take();
@@ -232,8 +348,8 @@ fn joined(
     }
 }
 
-// A fork of two sides, as high as it was where both are, so that the other side need not be looked at.
-fn settled(
+// A fork of two sides of which one was changed: where that kept its height the fork keeps its own, and the other side isn't read.
+fn rebalanced(
     below: Box<NameTree>,
     item: (Name, Stored),
     height: u64,
@@ -249,7 +365,7 @@ fn settled(
     balanced(below, item, above)
 }
 
-// A fork of two sides that one entry has changed, at nearly the same height again.
+// A fork of two sides whose heights differ by two at most, with sides whose heights differ by one at most.
 fn balanced(mut below: Box<NameTree>, item: (Name, Stored), mut above: Box<NameTree>) -> Node
     requires { IsAscending (below.value ++ item ∷ above.value) }
     ensures { entries result ≡ below.value ++ item ∷ above.value }
@@ -257,12 +373,12 @@ fn balanced(mut below: Box<NameTree>, item: (Name, Stored), mut above: Box<NameT
     let (low, high) = (below.height(), above.height());
     if low > high.saturating_add(1) {
         match below.take() {
-            Node::Fork(left, middle, _, right) => three(left, middle, right, item, above, below),
+            Node::Fork(left, middle, _, right) => rotated(left, middle, right, item, above, below),
             Node::Leaf => fork(below, item, above),
         }
     } else if high > low.saturating_add(1) {
         match above.take() {
-            Node::Fork(left, middle, _, right) => three(below, item, left, middle, right, above),
+            Node::Fork(left, middle, _, right) => rotated(below, item, left, middle, right, above),
             Node::Leaf => fork(below, item, above),
         }
     } else {
@@ -270,8 +386,8 @@ fn balanced(mut below: Box<NameTree>, item: (Name, Stored), mut above: Box<NameT
     }
 }
 
-// Three sides with the entries between them: the one in the middle is parted where it is the highest.
-fn three(
+// A fork of three sides and the two entries between them: a single rotation, or a double one where the middle side is the highest.
+fn rotated(
     first: Box<NameTree>,
     low: (Name, Stored),
     mut middle: Box<NameTree>,
@@ -283,7 +399,7 @@ fn three(
     ensures { entries result ≡ first.value ++ low ∷ (middle.value ++ high ∷ last.value) }
 {
     if middle.height() > first.height().max(last.height()) {
-        return parted(first, low, middle, high, last, spare);
+        return rotated_twice(first, low, middle, high, last, spare);
     }
     if first.height() > last.height() {
         *spare = NameTree::of(fork(middle, high, last));
@@ -293,7 +409,8 @@ fn three(
     fork(spare, high, last)
 }
 
-fn parted(
+// The same by a double rotation: the root of the middle side becomes the root.
+fn rotated_twice(
     first: Box<NameTree>,
     low: (Name, Stored),
     mut middle: Box<NameTree>,
@@ -317,6 +434,7 @@ fn parted(
     }
 }
 
+// A node over two sides.
 fn fork(below: Box<NameTree>, item: (Name, Stored), above: Box<NameTree>) -> Node
     ensures { entries result ≡ below.value ++ item ∷ above.value }
 {

@@ -1,14 +1,14 @@
 // A store in memory that never fails.
 ghost use Rattle.std.specs.Prelude.{◌≡◌, Some, []};
 
-use crate::memory::{found, listed, sized};
-use crate::tree_node::{Entry, NameTree};
+use crate::memory::{copy_of, metadata_of, names_above};
+use crate::name_tree::{Entry, NameTree};
 use crate::{Failed, Store, StoreError};
 use keep_event::{Held, Metadata, Name, Stored};
 use keep_spec::NoMemory;
 use std::alloc::Global;
 
-/// A store in memory that never fails.
+/// A store in memory that never fails: its count of faults is always 0, so its calls answer no `Failed`.
 #[derive(Drop)]
 pub struct SureStore {
     names: NameTree,
@@ -38,7 +38,7 @@ impl Store for SureStore {
     ghost faults = { λ s. 0 };
 
     fn get(&mut self, name: &Name) -> Result<Option<Stored>, StoreError> {
-        match found(self.alloc, self.names.get(name)) {
+        match copy_of(self.alloc, self.names.get(name)) {
             Ok(stored) => Ok(stored),
             Err(NoMemory) => Err(StoreError::NoMemory),
         }
@@ -53,14 +53,14 @@ impl Store for SureStore {
     }
 
     fn names_from(&mut self, after: Option<Name>, limit: usize) -> Result<Vec<Held>, StoreError> {
-        match listed(self.alloc, &self.names, after, limit) {
+        match names_above(self.alloc, &self.names, after, limit) {
             Ok(names) => Ok(names),
             Err(NoMemory) => Err(StoreError::NoMemory),
         }
     }
 
     fn stat(&mut self, name: &Name) -> Result<Option<Metadata>, Failed> {
-        Ok(sized(self.names.get(name)))
+        Ok(metadata_of(self.names.get(name)))
     }
 
     fn touch(&mut self, name: &Name, mtime: u64) -> Result<bool, Failed> {

@@ -6,7 +6,8 @@ use Rattle.keep_event.specs.declared.names.Name.{Name}
 use Rattle.keep_event.specs.declared.names.Stored.{Stored}
 use Rattle.keep_event.specs.declared.device.DeviceAnswer.{DeviceAnswer}
 use Rattle.keep_event.specs.declared.device.DeviceAnswer.TheVariants.{StoreFault}
-use Rattle.keep_volume.specs.Calls.{Device, state_with, state_of, IsToldLine, IsLine, IsItem, HasFault, IsKept, IsExactly, over, without_first}
+use Rattle.keep_volume.specs.Calls.{Device, state_with, state_of, IsToldLine, IsLine, HasFault, IsKept, IsExactly, over}
+use Rattle.keep_volume.specs.Steps.{IsItem, without_first}
 use Rattle.keep_spec.specs.declared.memory.NoMemory.{NoMemory}
 
 pub told-map : {A : Type 0} {P Q : A → Type 0} (o : Option A) → ((x : A) → P x → Q x) → IfSome o P → IfSome o Q

@@ -14,7 +14,7 @@ use Rattle.hex.specs.Hex.{encode_with, encode_lower, lower_digits}
 use Rattle.keep_event.specs.Device as machine
 use Rattle.keep_event.specs.declared.names.Name.{Name}
 use Rattle.keep_event.specs.declared.names.Metadata.{Metadata}
-use Rattle.keep_store.specs.Digits.{nibbles, order_of, order_then, digit_value, is_within}
+use Rattle.keep_volume.specs.Digits.{nibbles, order_of, order_then, digit_value, is_within}
 
 -- both tests, one after the other
 filter-and : {X : Type 0} (p q : X → Bool) (b : Bool) (x : X) (xs : List X) → q x ≡ b → filter p (filter q xs) ≡ filter (λ x. q x && p x) xs → filter p (cond b (x ∷ filter q xs) (filter q xs)) ≡ cond (b && p x) (x ∷ filter (λ x. q x && p x) xs) (filter (λ x. q x && p x) xs)

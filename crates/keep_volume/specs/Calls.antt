@@ -1,5 +1,5 @@
--- A device over a store that may tell what it holds.
-use Rattle.std.specs.Prelude.{◌≡◌, ◌≢◌, ℕ, ◌≤◌, List, Option, Some, option_map, IfSome, Result, Ok, Err, ◌⊎◌, ⊤, drop, [], Bool, true, false}
+-- A device over a store that may tell what it holds: the words of its public contracts.
+use Rattle.std.specs.Prelude.{◌≡◌, ◌≢◌, ℕ, ◌<◌, ◌≤◌, List, Option, Some, option_map, IfSome, Result, Ok, Err, ◌⊎◌, ⊤, [], Bool, true, false}
 use Rattle.keep_spec.specs.Causes.{Rose}
 use Rattle.keep_event.specs.Device.{State, Reply, restart}
 use Rattle.keep_event.specs.declared.names.Name.{Name}
@@ -14,9 +14,8 @@ use Rattle.keep_event.specs.declared.device.DeviceAnswer.TheVariants as answers
 use Rattle.keep_volume.specs.declared.volume.OpenError.{OpenError}
 use Rattle.keep_volume.specs.declared.volume.OpenError.TheVariants.{StoreFault, NoMemory}
 use Rattle.keep_spec.specs.declared.memory.NoMemory as memory
-use Rattle.keep_store.specs.declared.store.Failed.{Failed}
 
--- what callers see of a volume
+-- what callers see of a device: what its store tells, the kept round, the two lists, the rules, and the store's count of faults
 pub record Device : Type 0 where
   pub held : Option (List (Name × Stored))
   pub round : ℕ
@@ -58,22 +57,6 @@ pub record IsLine (line : State → Reply) (old new : Device) (result : Result D
   pub later : old.faults ≤ new.faults
   pub rules : new.rules ≡ old.rules
 
--- the machine's line exactly, but for the list
-abbrev pub IsItem : (State → Reply) → Device → Device → Result DeviceAnswer Failed → Type 0
-IsItem line old new (Ok a) = IfSome (state_of old) (λ s. (a ≡ (line s).answer) × (state_of new ≡ Some (line s).state)) × (old.faults ≤ new.faults) × (new.rules ≡ old.rules) × (new.trash ≡ old.trash) × (a ≡ answers.StoreFault → ⊥)
-IsItem line old new (Err e) = (new ≡ over old (λ es. es) new.faults) × Rose old.faults new.faults × (old.faults ≤ new.faults)
-
--- a call of the store that fails changes nothing
-abbrev pub IsStoreCall : {A : Type 0} → (List (Name × Stored) → List (Name × Stored)) → Device → Device → Result A Failed → Type 0
-IsStoreCall h old new (Ok a) = (new ≡ over old h new.faults) × (old.faults ≤ new.faults)
-IsStoreCall h old new (Err e) = (new ≡ over old (λ es. es) new.faults) × Rose old.faults new.faults × (old.faults ≤ new.faults)
-
-abbrev pub without_first : Device → Device
-without_first d = record { held = d.held; round = d.round; trash = drop 1 d.trash; pull = d.pull; rules = d.rules; faults = d.faults }
-
-abbrev pub without_lists : Device → Device
-without_lists d = record { held = d.held; round = d.round; trash = []; pull = []; rules = d.rules; faults = d.faults }
-
 -- a device that was opened: lists empty, the round is the note
 pub record IsOpened (told : Option (List (Name × Stored))) (noted : Option ℕ) (given : DeviceRules) (d : Device) : Type 0 where
   pub held : d.held ≡ told
@@ -103,6 +86,11 @@ pub record HasReadOnly (old new : Device) (result : Result DeviceAnswer memory.N
   pub given : old.rules.read_only ≡ true → (result ≡ Ok answers.ReadOnly) × (new ≡ old)
   pub only : result ≡ Ok answers.ReadOnly → old.rules.read_only ≡ true
 
+-- a round below the kept one is answered Stale, whatever the store does, and no other
+pub record HasLowerStale (round : ℕ) (old new : Device) (result : Result DeviceAnswer memory.NoMemory) : Type 0 where
+  pub given : round < old.round → (result ≡ Ok (answers.Stale old.round)) × (new ≡ old)
+  pub only : (held : ℕ) → result ≡ Ok (answers.Stale held) → round < old.round
+
 -- a round other than the kept one is answered Stale, told or not, and no other
 pub record HasStale (round : ℕ) (old new : Device) (result : Result DeviceAnswer memory.NoMemory) : Type 0 where
   pub given : round ≢ old.round → (result ≡ Ok (answers.Stale old.round)) × (new ≡ old)
@@ -131,3 +119,24 @@ takes_memory queries.PullNext = false
 takes_memory (queries.Untrash digest) = false
 takes_memory queries.EmptyNext = false
 takes_memory queries.Restart = false
+
+-- a query that a device that is read only refuses before it asks its store
+abbrev pub is_refused : DeviceQuery → Bool
+is_refused (queries.CompareTouch block token) = true
+is_refused (queries.Write block token) = true
+is_refused (queries.Fetch digest) = false
+is_refused (queries.Touch digest token) = true
+is_refused (queries.Clear round) = false
+is_refused (queries.Accept round lists) = false
+is_refused (queries.Page round prefix) = false
+is_refused queries.TrashNext = false
+is_refused queries.PullNext = false
+is_refused (queries.Untrash digest) = true
+is_refused queries.EmptyNext = true
+is_refused queries.Restart = false
+
+-- Stale comes exactly by the round for a clear and a page
+abbrev pub HasStaleRound : DeviceQuery → Device → Device → Result DeviceAnswer memory.NoMemory → Type 0
+HasStaleRound (queries.Clear round) old new result = HasLowerStale round old new result
+HasStaleRound (queries.Page round prefix) old new result = HasStale round old new result
+HasStaleRound query old new result = ⊤

@@ -6,13 +6,14 @@ ghost use Rattle.keep_event.specs.Device as machine;
 ghost use Rattle.keep_event.specs.Store.{find, put, without, above, change, move as moved, with_mtime, AreAscending};
 ghost use Rattle.keep_volume.specs.Index.{size_at, total, due, sized_entry, sized_held, ArePassed, earlier_of};
 ghost use Rattle.keep_volume.specs.Looks.{look};
-ghost use Rattle.keep_store.specs.Buckets.{room_for};
+ghost use Rattle.keep_volume.specs.Buckets.{room_for};
 ghost use Rattle.keep_store.specs.Names.{has, named};
 
+use crate::name_list::NameList;
+use crate::name_map::NameMap;
 use hex::encode_to_slice;
 use keep_event::{Entry, Held, Metadata, Name};
 use keep_spec::{Digest, NoMemory};
-use keep_store::{NameList, NameMap};
 use std::alloc::Global;
 use std::marker::Model;
 
@@ -33,14 +34,14 @@ struct Looked {
 /// The names of a store with their times and sizes.
 #[derive(Drop)]
 pub(crate) struct Index {
-    names: NameMap<Metadata>,
+    names: NameMap,
     used: u128,
     passed: Passed,
 }
 
 impl Model for Index {
     ghost use Rattle.std.specs.Prelude.{◌≡◌, ◌<◌, ◌^◌};
-    ghost use Rattle.keep_store.specs.Buckets.{Bucketed};
+    ghost use Rattle.keep_volume.specs.Buckets.{Bucketed};
     ghost use Rattle.keep_event.specs.declared.names.Metadata.{Metadata as TheMetadata};
     ghost use Rattle.keep_volume.specs.Index.{total, ArePassed};
 
@@ -84,7 +85,7 @@ impl Index {
     pub(crate) fn get(&self, name: &Name) -> Option<Metadata>
         ensures { result ≡ find name.now self.now.entries }
     {
-        self.names.get(name).copied()
+        self.names.get(name)
     }
 
     /// The bytes that a name takes.
@@ -192,11 +193,7 @@ impl Index {
 }
 
 // Adds the replicas whose digits begin with the prefix.
-fn page_more(
-    entries: &mut Vec<Entry>,
-    names: &NameList<Metadata>,
-    prefix: &[u8],
-) -> Result<(), NoMemory>
+fn page_more(entries: &mut Vec<Entry>, names: &NameList, prefix: &[u8]) -> Result<(), NoMemory>
     ensures { OnOk result (entries.new.items ≡ entries.old.items ++ map sized_entry (filter (λ e. machine.is_paged prefix.now e.0) names.now.entries)) }
 {
     for item in names.within(prefix) {
@@ -215,7 +212,7 @@ fn page_more(
 }
 
 // Looks for the first copy whose deadline has passed, from where an earlier look came to.
-fn look_through(names: &NameMap<Metadata>, passed: Passed, reading: u64) -> Looked
+fn look_through(names: &NameMap, passed: Passed, reading: u64) -> Looked
     requires waiting { reading ≤ passed.earliest }
     requires passed { ArePassed passed.up_to passed.earliest names.now.entries }
     ensures found { result.found ≡ option_map (λ e. e.0) (list_find (due reading) names.now.entries) }
@@ -237,7 +234,7 @@ fn look_through(names: &NameMap<Metadata>, passed: Passed, reading: u64) -> Look
 }
 
 // The same in one bucket, in the names above one.
-fn look_in(names: &NameList<Metadata>, after: Option<&Name>, passed: Passed, reading: u64) -> Looked
+fn look_in(names: &NameList, after: Option<&Name>, passed: Passed, reading: u64) -> Looked
     ensures { result ≡ look reading passed (above (named after.entry) names.now.entries) }
 {
     let mut came = passed;
@@ -272,7 +269,7 @@ fn earlier(earliest: u64, name: &Name) -> u64
 }
 
 // The names with their times and sizes, and the bytes of all.
-fn sized_names(alloc: Global, names: &[Held]) -> Result<(NameMap<Metadata>, u128), NoMemory>
+fn sized_names(alloc: Global, names: &[Held]) -> Result<(NameMap, u128), NoMemory>
     requires { AreAscending (map (λ h. h.name) names.now) }
     ensures entries { IfOk result (λ r. r.0.entries ≡ map sized_held names.now) }
     ensures used { IfOk result (λ r. r.1 ≡ total r.0.entries) }

@@ -1,9 +1,10 @@
 //! Devices: blocks with their times, trashed copies, and the lists of a round, over any store.
 #![tactic(auto)]
 
-#[cfg(test)]
-mod counted;
+mod digits;
 mod index;
+mod name_list;
+mod name_map;
 #[cfg(test)]
 mod tests;
 mod volume;

@@ -5,7 +5,8 @@ ghost use Rattle.keep_event.specs.Device as machine;
 ghost use Rattle.keep_event.specs.Store as store;
 ghost use Rattle.keep_event.specs.Store.{find, size_of, sized};
 ghost use Rattle.std.specs.List.{find as list_find, last_or, filter};
-ghost use Rattle.keep_volume.specs.Calls.{IsLine, IsLineAnyway, IsExactly, HasReadOnly, HasStale, HasIdle, IsReopened, state_of, IsStoreCall, IsItem, Device, over, without_first, without_lists, IsOpened, IsGivenBack, takes_memory};
+ghost use Rattle.keep_volume.specs.Calls.{IsLine, IsLineAnyway, IsExactly, HasReadOnly, HasLowerStale, HasStale, HasStaleRound, HasIdle, IsReopened, state_of, Device, over, IsOpened, IsGivenBack, is_refused, takes_memory};
+ghost use Rattle.keep_volume.specs.Steps.{IsStoreCall, IsItem, without_first, without_lists};
 ghost use Rattle.keep_store.specs.Causes.{HasStoreCause};
 
 use crate::index::Index;
@@ -20,14 +21,17 @@ use std::alloc::Global;
 use std::collections::VecDeque;
 use std::marker::Model;
 
-/// Why a volume was not opened, with its store as it was.
+/// Why a device was not opened. The store comes back as it was.
 #[derive(Drop)]
 pub enum OpenError<S> {
+    /// One of the two calls of the store failed, which the store counts among its faults.
     StoreFault { store: S },
+    /// Memory was refused for the names.
     NoMemory { store: S },
 }
 
-/// A device: replicas, trashed copies and the kept round in a store, and beside it the two lists, the rules, and what is remembered of the store, so that most calls needn't ask it. It is seen as what the store tells, the round, the lists, the rules and the store's count of faults.
+/// A device: replicas, trashed copies and the kept round in a store, with the two lists, the rules, and the times and sizes of all names, so that most calls needn't ask the store. It is seen as what the store tells, the round, the lists, the rules and the store's count of faults.
+/// Each call is one line of the device machine. A call changes its store by one store call at most.
 #[derive(Drop)]
 pub struct Volume<S: Store> {
     store: S,
@@ -52,6 +56,7 @@ impl<S: Store> Model for Volume<S> {
     ghost invariant = { λ v. record { remembers : Remembers (S.held v.store) v.index.entries; done : v.trash_done ≤ length v.trash.items; noted : IfSome (S.noted v.store) (λ n. n ≡ v.round); life : v.rules.trash_life ≤ 100000000000000000 } };
 }
 
+// The name of a digest's replica.
 fn replica(digest: Digest) -> Name
     ensures { result ≡ machine.replica digest }
 {
@@ -62,8 +67,8 @@ fn replica(digest: Digest) -> Name
 }
 
 impl<S: Store> Volume<S> {
-    /// Opens a device over its store: empty lists, and the store's note for its round. It makes two calls of the store, `note` and then `names_from`.
-    /// Condition: trashed copies are kept for at most 10^17 nanoseconds. After an error the store comes back as it was.
+    /// Opens a device over its store: both lists are empty, and the round is the store's note. It makes two calls of the store, `note` and then `names_from`. On error the store comes back as it was.
+    /// Condition: trashed copies are kept for at most 10^17 nanoseconds.
     pub fn open(alloc: Global, store: S, rules: DeviceRules) -> Result<Volume<S>, OpenError<S>>
         requires { rules.trash_life ≤ 100000000000000000 }
         ensures opened { IfOk result (λ v. IsOpened (S.held store) (S.noted store) rules v) }
@@ -94,7 +99,7 @@ impl<S: Store> Volume<S> {
         })
     }
 
-    /// Gives the store back. A device that is opened over it is this one after a restart.
+    /// Returns the store. A device that is opened over it is this one after a restart.
     pub fn into_store(self) -> S
         ensures held { S.held result ≡ self.held }
         ensures faults { S.faults result ≡ self.faults }
@@ -114,7 +119,7 @@ impl<S: Store> Volume<S> {
         store
     }
 
-    /// Whether nothing is kept: no replica, no trashed copy, empty lists, and no round yet.
+    /// Whether the device is new: no replica, no trashed copy, both lists empty, and the round 0.
     pub fn is_empty(&self) -> bool
         ensures told { IfSome (state_of self.now) (λ s. IsTrue result ↔ (s ≡ machine.initial)) }
         ensures lists { IsTrue result → (self.now.round ≡ 0) × (self.now.trash ≡ []) × (self.now.pull ≡ []) }
@@ -128,19 +133,21 @@ impl<S: Store> Volume<S> {
         self.pull.is_empty()
     }
 
-    /// The first item of the pull list, which stays there.
+    /// The first item of the pull list, which stays in the list.
     pub fn next_pull(&self) -> Option<&PullItem>
         ensures { option_copied result ≡ slice_get self.now.pull 0 }
     {
         self.pull.front()
     }
 
-    /// Does the call that the query names. The reading is one of the clock, in nanoseconds since 1970 and below 4·10^18.
-    /// Every call answers by the machine's line of its query on what the store tells. StoreFault comes in its place only where the store's count of faults rose, and then nothing has changed, nor has anything after NoMemory. A list is taken as a copy here. Only a query that reads or writes bytes, a page, and lists may want memory.
+    /// Makes the call that the query names. The reading is the clock's, in nanoseconds since 1970 and below 4·10^18.
+    /// The answer and the state afterwards are the line of the device machine on what the store tells. StoreFault replaces it only where the store's count of faults rose, and then nothing has changed; nothing changes at NoMemory either. Lists are copied. Only a query that reads or writes bytes, a page, and lists may want memory.
     pub fn step(&mut self, reading: u64, query: &DeviceQuery) -> Result<DeviceAnswer, NoMemory>
         requires { reading < 4000000000000000000 }
         ensures line { IsLine (machine.step self.old.rules reading query.now) self.old self.new result }
         ensures may_fault { result ≡ Ok DeviceAnswer.StoreFault → machine.may_fault query.now ≡ true }
+        ensures read_only { is_refused query.now ≡ true → HasReadOnly self.old self.new result }
+        ensures stale { HasStaleRound query.now self.old self.new result }
         ensures sure { takes_memory query.now ≡ false → IsOk result }
     {
         match query {
@@ -161,7 +168,7 @@ impl<S: Store> Volume<S> {
         }
     }
 
-    /// Where the device has the block, its time becomes the greater of its own and the reading. The token is that of the client to whom an answer Touched issues a signature; it has no part in what is done. On a writable device the first call of the store is a `get` of the replica.
+    /// Touches the block where the device has it with the same bytes: its time becomes the greater of its own and the reading. The token is that of the client to whom an answer Touched issues a signature; it doesn't change what is done. On a writable device the first call of the store is a `get` of the replica.
     pub fn compare_touch(
         &mut self,
         reading: u64,
@@ -184,14 +191,14 @@ impl<S: Store> Volume<S> {
         if stored.bytes.as_slice() != block.bytes() {
             return Ok(other_bytes(block, stored.bytes.as_slice()));
         }
-        let mtime = stored.mtime.max(reading);
+        let mtime = renewed_time(stored.mtime, reading);
         match self.renew(&name, mtime) {
             Ok(_) => Ok(DeviceAnswer::Touched { mtime }),
             Err(_) => Ok(DeviceAnswer::StoreFault),
         }
     }
 
-    /// The same, and the block is written where the device doesn't have it, or has it corrupt: with the greater of the corrupt replica's time and the reading, and only where the bytes of all replicas and trashed copies stay within the capacity.
+    /// Touches the block where the device has it with the same bytes, and stores it where the device doesn't have it, or has it corrupt: with the greater of the corrupt replica's time and the reading, and only where the bytes of all replicas and trashed copies stay within the capacity. Other bytes with the same MD5 are never replaced.
     pub fn write(
         &mut self,
         reading: u64,
@@ -211,7 +218,7 @@ impl<S: Store> Volume<S> {
             Err(StoreError::Failed) => return Ok(DeviceAnswer::StoreFault),
             Err(StoreError::NoMemory) => return Err(NoMemory),
         };
-        let mtime = stored.mtime.max(reading);
+        let mtime = renewed_time(stored.mtime, reading);
         if stored.bytes.as_slice() != block.bytes() {
             if digest_of(stored.bytes.as_slice()) == block.digest() {
                 return Ok(DeviceAnswer::Collision);
@@ -224,7 +231,7 @@ impl<S: Store> Volume<S> {
         }
     }
 
-    /// The bytes of the replica, where their MD5 is the digest. The reading has no part in it.
+    /// Returns the bytes of the replica, where their MD5 is the digest. The reading doesn't matter.
     pub fn fetch(&mut self, _reading: u64, digest: &Digest) -> Result<DeviceAnswer, NoMemory>
         ensures { IsLine (machine.fetch digest.now) self.old self.new result }
     {
@@ -244,7 +251,7 @@ impl<S: Store> Volume<S> {
         })
     }
 
-    /// The replica's time becomes the greater of its own and the reading, without a look at its bytes. It takes no memory.
+    /// Sets the replica's time to the greater of its own and the reading, without reading its bytes. It takes no memory.
     pub fn touch(
         &mut self,
         reading: u64,
@@ -262,17 +269,18 @@ impl<S: Store> Volume<S> {
         let Some(known) = self.known(&name) else {
             return Ok(DeviceAnswer::Absent);
         };
-        let mtime = known.mtime.max(reading);
+        let mtime = renewed_time(known.mtime, reading);
         match self.renew(&name, mtime) {
             Ok(_) => Ok(DeviceAnswer::Touched { mtime }),
             Err(_) => Ok(DeviceAnswer::StoreFault),
         }
     }
 
-    /// Keeps the round and empties both lists, unless the round is below the kept one. It takes no memory.
+    /// Keeps the round and empties both lists. Below the kept round the answer is Stale, whatever the store does. It takes no memory.
     pub fn clear(&mut self, _reading: u64, round: u64) -> Result<DeviceAnswer, NoMemory>
         ensures line { IsLine (machine.clear round) self.old self.new result }
         ensures anyway { IsLineAnyway (machine.clear round) self.old self.new result }
+        ensures stale { HasLowerStale round self.old self.new result }
         ensures sure { IsOk result }
     {
         if round < self.round {
@@ -286,7 +294,7 @@ impl<S: Store> Volume<S> {
         Ok(DeviceAnswer::Cleared)
     }
 
-    /// Takes the lists of exactly the kept round, in the place of those it has. It takes no memory, and no call of the store.
+    /// Replaces both lists by these, where the round is the kept one. It takes no memory, and makes no call of the store.
     pub fn accept(
         &mut self,
         _reading: u64,
@@ -309,7 +317,7 @@ impl<S: Store> Volume<S> {
         Ok(DeviceAnswer::Accepted { trash, pull })
     }
 
-    /// The replicas whose digits begin with the prefix, ascending, for exactly the kept round. Their place is found by halves.
+    /// Lists the replicas whose digits begin with the prefix, ascending, where the round is the kept one. They are found by binary search; the store isn't asked.
     pub fn page(
         &mut self,
         _reading: u64,
@@ -328,7 +336,7 @@ impl<S: Store> Volume<S> {
         })
     }
 
-    /// Takes the first item of the trash list. The replica becomes a trashed copy where its time is the item's, and the reading is above that time and the grace; the copy is kept until the reading and the trash life. It takes no memory. After StoreFault the item is still the first.
+    /// Takes the first item of the trash list. The replica becomes a trashed copy where its time is the item's and the reading is above that time plus the grace; the copy's deadline is the reading plus the trash life. It takes no memory. After StoreFault the item is still the first.
     /// Condition: the reading is below 4·10^18.
     pub fn trash_next(&mut self, reading: u64) -> Result<DeviceAnswer, NoMemory>
         requires { reading < 4000000000000000000 }
@@ -348,7 +356,7 @@ impl<S: Store> Volume<S> {
         }
     }
 
-    /// Takes the first item of the pull list. It takes no memory, and no call of the store.
+    /// Takes the first item of the pull list. It takes no memory, and makes no call of the store.
     pub fn pull_next(&mut self, _reading: u64) -> Result<DeviceAnswer, NoMemory>
         ensures line { IsLine machine.pull_next self.old self.new result }
         ensures exact { IsExactly machine.pull_next self.old self.new result }
@@ -361,7 +369,7 @@ impl<S: Store> Volume<S> {
         Ok(DeviceAnswer::Pull { item })
     }
 
-    /// The trashed copy with the greatest deadline becomes the replica again, where there is none, with the greater of its own time and the reading. It takes no memory.
+    /// Makes the trashed copy with the greatest deadline the replica again, where there is none, with the greater of its own time and the reading. It takes no memory.
     pub fn untrash(&mut self, reading: u64, digest: &Digest) -> Result<DeviceAnswer, NoMemory>
         ensures line { IsLine (machine.untrash self.old.rules digest.now reading) self.old self.new result }
         ensures read_only { HasReadOnly self.old self.new result }
@@ -377,14 +385,14 @@ impl<S: Store> Volume<S> {
         let Some((copy, sized)) = self.last_copy(digest) else {
             return Ok(DeviceAnswer::NoTrash);
         };
-        let mtime = sized.mtime.max(reading);
+        let mtime = renewed_time(sized.mtime, reading);
         match self.rename(&copy, &name, mtime) {
             Ok(_) => Ok(DeviceAnswer::Back { mtime }),
             Err(_) => Ok(DeviceAnswer::StoreFault),
         }
     }
 
-    /// Removes the first trashed copy, by digest and deadline, whose deadline is below the reading. It takes no memory, and goes on where the last such call came to.
+    /// Removes the first trashed copy, by digest and deadline, whose deadline is below the reading. It takes no memory, and goes on from where the last such call stopped.
     pub fn empty_next(&mut self, reading: u64) -> Result<DeviceAnswer, NoMemory>
         ensures line { IsLine (machine.empty_next self.old.rules reading) self.old self.new result }
         ensures read_only { HasReadOnly self.old self.new result }
@@ -404,7 +412,7 @@ impl<S: Store> Volume<S> {
         }
     }
 
-    /// Empties both lists and keeps the round. It takes no memory, and no call of the store.
+    /// Empties both lists and keeps the round. It takes no memory, and makes no call of the store.
     pub fn restart(&mut self, _reading: u64) -> Result<DeviceAnswer, NoMemory>
         ensures line { IsLine machine.restart self.old self.new result }
         ensures exact { IsExactly machine.restart self.old self.new result }
@@ -415,7 +423,7 @@ impl<S: Store> Volume<S> {
         Ok(DeviceAnswer::Restarted)
     }
 
-    // Sets the time of what has the name.
+    // Sets the time of the name, in the store and in the index.
     fn renew(&mut self, name: &Name, mtime: u64) -> Result<bool, Failed>
         ensures { IsStoreCall (λ es. store.touch name.now mtime es (find name.now es)) self.old self.new result }
     {
@@ -424,7 +432,7 @@ impl<S: Store> Volume<S> {
         Ok(there)
     }
 
-    // Gives what has the name another name of the same digest, and another time.
+    // Moves the name to another of the same digest and sets its time, in the store and in the index.
     fn rename(&mut self, from: &Name, to: &Name, mtime: u64) -> Result<bool, Failed>
         requires { from.now.digest ≡ to.now.digest }
         ensures { IsStoreCall (λ es. store.rename from.now to.now mtime es (find from.now es)) self.old self.new result }
@@ -434,7 +442,7 @@ impl<S: Store> Volume<S> {
         Ok(there)
     }
 
-    // Lets go of what has the name.
+    // Removes the name from the store and the index.
     fn remove(&mut self, name: &Name) -> Result<bool, Failed>
         ensures { IsStoreCall (store.without name.now) self.old self.new result }
     {
@@ -443,7 +451,7 @@ impl<S: Store> Volume<S> {
         Ok(there)
     }
 
-    // What the store keeps under a name.
+    // What the store has under a name.
     fn stored(&mut self, name: &Name) -> Result<Option<Stored>, StoreError>
         ensures value { IfOk result (λ o. IfSome self.old.held (λ es. o ≡ find name.now es)) }
         ensures same { self.new ≡ over self.old (λ es. es) self.new.faults }
@@ -452,7 +460,7 @@ impl<S: Store> Volume<S> {
         self.store.get(name)
     }
 
-    // What is remembered of a name.
+    // The time and size of a name, by the index.
     fn known(&self, name: &Name) -> Option<Metadata>
         ensures { IfSome self.now.held (λ es. result ≡ option_map size_of (find name.now es)) }
     {
@@ -475,7 +483,7 @@ impl<S: Store> Volume<S> {
         self.index.last_copy(digest)
     }
 
-    // Puts the bytes in the place of what has the name, where there is room for them.
+    // Stores the block with this time, replacing a corrupt replica, where the capacity allows.
     fn place(&mut self, mtime: u64, block: &Block) -> Result<DeviceAnswer, NoMemory>
         ensures line { IsLine (machine.placed self.old.rules block.now mtime) self.old self.new result }
         ensures placed { result ≡ Ok DeviceAnswer.ReadOnly → ⊥ }
@@ -517,7 +525,7 @@ impl<S: Store> Volume<S> {
         }
     }
 
-    // What the first item of the trash list asks for, with the list as it is.
+    // Does what the first item of the trash list asks for, and leaves the list as it is.
     fn trash_item(&mut self, reading: u64, item: TrashItem) -> Result<DeviceAnswer, Failed>
         requires { reading < 4000000000000000000 }
         ensures item { IsItem (machine.trash_item self.old.rules item reading) self.old self.new result }
@@ -552,6 +560,7 @@ impl<S: Store> Volume<S> {
         })
     }
 
+    // The first item of the trash list, which stays in the list.
     fn first_trash(&self) -> Option<TrashItem>
         ensures { result ≡ slice_get self.now.trash 0 }
     {
@@ -573,6 +582,14 @@ impl<S: Store> Volume<S> {
     }
 }
 
+// The time of a replica that is put, touched or brought back: the greater of the old time and the reading.
+fn renewed_time(mtime: u64, reading: u64) -> u64
+    ensures { result ≡ max mtime reading }
+{
+    mtime.max(reading)
+}
+
+// The MD5 of the bytes.
 fn digest_of(bytes: &[u8]) -> Digest
     ensures { result ≡ md5 bytes.now }
 {

@@ -1,8 +1,8 @@
 use Rattle.std.proofs.Common.{◌≡◌, ap, sym, ◌∙◌, ◌+◌, drop, None}
 use Rattle.std.specs.Prelude.{is_some}
 use Rattle.keep_event.specs.Store.{above}
-use Rattle.keep_store.specs.Buckets.{entries_above}
-use Rattle.keep_store.proofs.Buckets.{above-step, none-above}
+use Rattle.keep_volume.specs.Buckets.{entries_above}
+use Rattle.keep_volume.proofs.Buckets.{above-step, none-above}
 use Rattle.keep_volume.specs.declared.index.Looked.{Looked}
 use Rattle.keep_volume.specs.Looks.{look}
 use Rattle.keep_volume.proofs.Looks.{look-stops, look-goes, whole-found, whole-passed}

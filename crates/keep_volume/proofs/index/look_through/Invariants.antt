@@ -1,6 +1,6 @@
 use Rattle.std.proofs.Common.{◌≡◌, drop}
 use Rattle.keep_event.specs.Store.{above}
-use Rattle.keep_store.specs.Buckets.{entries_above}
+use Rattle.keep_volume.specs.Buckets.{entries_above}
 use Rattle.keep_volume.specs.Looks.{look}
 use Rattle.keep_volume.proofs.index.look_through.Given as goal
 

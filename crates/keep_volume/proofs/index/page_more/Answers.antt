@@ -1,7 +1,7 @@
 use Rattle.std.proofs.Common.{rules, ◌∙◌, ◌++◌, ap, map}
 use Rattle.std.specs.List.{filter}
 use Rattle.keep_event.specs.Device.{is_paged}
-use Rattle.keep_store.specs.Digits.{is_within}
+use Rattle.keep_volume.specs.Digits.{is_within}
 use Rattle.keep_volume.specs.Index.{sized_entry}
 use Rattle.keep_volume.proofs.Pages.{filter-within, paged-within}
 use Rattle.keep_volume.proofs.index.page_more.Goals as goal

@@ -1,8 +1,8 @@
 use Rattle.std.proofs.Common.{ap, ◌∙◌, ◌+◌, drop, map, None}
 use Rattle.std.specs.List.{filter}
 use Rattle.keep_event.specs.Device.{is_paged}
-use Rattle.keep_store.specs.Buckets.{entries_above}
-use Rattle.keep_store.proofs.Buckets.{above-step, none-above}
+use Rattle.keep_volume.specs.Buckets.{entries_above}
+use Rattle.keep_volume.proofs.Buckets.{above-step, none-above}
 use Rattle.keep_volume.specs.Index.{sized_entry}
 use Rattle.keep_volume.proofs.Pages.{page-step, page-end}
 use Rattle.keep_volume.proofs.index.Index.page.Goals as goal

@@ -1,7 +1,7 @@
 use Rattle.std.proofs.Common.{◌≡◌, ◌++◌, drop, map, None}
 use Rattle.std.specs.List.{filter}
 use Rattle.keep_event.specs.Device.{is_paged}
-use Rattle.keep_store.specs.Buckets.{entries_above}
+use Rattle.keep_volume.specs.Buckets.{entries_above}
 use Rattle.keep_volume.specs.Index.{sized_entry}
 use Rattle.keep_volume.proofs.index.Index.page.Given as goal
 

@@ -1,5 +1,5 @@
 use Rattle.std.proofs.Common.{◌≡◌, ◌∙◌, ap, arith, sym}
-use Rattle.keep_store.specs.Buckets.{Bucketed}
+use Rattle.keep_volume.specs.Buckets.{Bucketed}
 use Rattle.keep_event.specs.declared.names.Metadata.{Metadata}
 use Rattle.keep_volume.specs.Index.{total, size_at}
 use Rattle.keep_volume.proofs.Sums.{total-put, size-le}

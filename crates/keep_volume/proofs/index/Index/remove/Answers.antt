@@ -1,5 +1,5 @@
 use Rattle.std.proofs.Common.{◌≡◌, ◌∙◌, ap, arith, sym}
-use Rattle.keep_store.specs.Buckets.{Bucketed}
+use Rattle.keep_volume.specs.Buckets.{Bucketed}
 use Rattle.keep_event.specs.declared.names.Metadata.{Metadata}
 use Rattle.keep_event.specs.Store.{without}
 use Rattle.keep_store.proofs.Order.{all-without}

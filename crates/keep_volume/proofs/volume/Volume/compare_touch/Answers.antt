@@ -26,9 +26,9 @@ returns-then-ne-clause-line g c =
 pub returns-in-Ok-clause-line : goal.returns-in-Ok-clause-line
 returns-in-Ok-clause-line g c =
     let d = c.args.self.now in
-    let m = c.max-mtime.result in
+    let m = c.renewed_time-mtime.result in
     let n = c.replica-name.result in
     let h = touch_at n m in
     over-line _ d c.renew.new.self h (over-over d c.stored.new.self c.renew.new.self h c.stored.ensures.same c.in-Ok.ensures.0) (omega (arith, c.stored.ensures.cause.later, c.in-Ok.ensures.1)) (Touched m)
-    (told-map d.held (λ es k. compare-same d.rules c.args.block.now c.args.reading (state_with d es) c.in-Ok-Some.stored n m (search rules) (search rules) c.max-mtime.ensures (search rules) (search rules)) c.in-Ok-Some.ensures.value)
+    (told-map d.held (λ es k. compare-same d.rules c.args.block.now c.args.reading (state_with d es) c.in-Ok-Some.stored n m (search rules) (search rules) c.renewed_time-mtime.ensures (search rules) (search rules)) c.in-Ok-Some.ensures.value)
     (λ e. cc e)

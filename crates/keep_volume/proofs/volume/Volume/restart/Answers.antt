@@ -1,6 +1,7 @@
 use Rattle.std.proofs.Common.{refl, arith}
 use Rattle.keep_event.specs.declared.device.DeviceAnswer.TheVariants.{Restarted}
-use Rattle.keep_volume.specs.Calls.{state_with, without_lists}
+use Rattle.keep_volume.specs.Calls.{state_with}
+use Rattle.keep_volume.specs.Steps.{without_lists}
 use Rattle.keep_volume.proofs.Lines.{becomes-line, exactly, told-all, option_map-same}
 use Rattle.keep_volume.proofs.Machine.{restart-done}
 use Rattle.keep_volume.proofs.volume.Volume.restart.Goals as goal

@@ -20,7 +20,7 @@ returns-in_default-clause-line g c =
 pub returns-in-Ok-clause-line : goal.returns-in-Ok-clause-line
 returns-in-Ok-clause-line g c =
     let d = c.args.self.now in
-    let m = c.max-mtime.result in
+    let m = c.renewed_time-mtime.result in
     over-line _ d c.renew.new.self (λ es. store.touch c.replica-name.result m es (find c.replica-name.result es)) c.in-Ok.ensures.0 c.in-Ok.ensures.1 (Touched m)
-    (told-map d.held (λ es k. touch-set d.rules c.args.digest.now c.args.reading (state_with d es) c.in-Some.known c.replica-name.result m (search rules) c.replica-name.ensures c.max-mtime.ensures (sym c.in-Some.is ∙ k)) c.known.ensures)
+    (told-map d.held (λ es k. touch-set d.rules c.args.digest.now c.args.reading (state_with d es) c.in-Some.known c.replica-name.result m (search rules) c.replica-name.ensures c.renewed_time-mtime.ensures (sym c.in-Some.is ∙ k)) c.known.ensures)
     (λ e. cc e)

@@ -21,11 +21,11 @@ returns-then-eq-clause-line g c =
 pub returns-in-Ok-clause-line : goal.returns-in-Ok-clause-line
 returns-in-Ok-clause-line g c =
     let d = c.args.self.now in
-    let m = c.max-mtime.result in
+    let m = c.renewed_time-mtime.result in
     let n = c.replica-name.result in
     let h = touch_at n m in
     over-line _ d c.renew.new.self h (over-over d c.stored.new.self c.renew.new.self h c.stored.ensures.same c.in-Ok.ensures.0) (omega (arith, c.stored.ensures.cause.later, c.in-Ok.ensures.1)) (Written m)
-    (told-map d.held (λ es k. write-same d.rules c.args.block.now c.args.reading (state_with d es) c.in-Ok-Some.stored n m (search rules) (search rules) c.max-mtime.ensures (search rules) (search rules)) c.in-Ok-Some.ensures.value)
+    (told-map d.held (λ es k. write-same d.rules c.args.block.now c.args.reading (state_with d es) c.in-Ok-Some.stored n m (search rules) (search rules) c.renewed_time-mtime.ensures (search rules) (search rules)) c.in-Ok-Some.ensures.value)
     (λ e. cc e)
 
 pub returns-in-Ok-None-clause-line : goal.returns-in-Ok-None-clause-line
@@ -39,8 +39,8 @@ returns-in-Ok-None-clause-line g c =
 pub returns-then-ne-clause-line : goal.returns-then-ne-clause-line
 returns-then-ne-clause-line g c =
     let d = c.args.self.now in
-    let m = c.max-mtime.result in
+    let m = c.renewed_time-mtime.result in
     let same_rules : c.stored.new.self.rules ≡ d.rules = ap (λ (d : Device). d.rules) c.stored.ensures.same in
     after-line _ (machine.placed d.rules c.args.block.now m) d c.stored.new.self c.place-then-ne.new.self c.place-then-ne.result c.stored.ensures.same c.stored.ensures.cause.later
     (subst (λ r. IsLine (machine.placed r c.args.block.now m) c.stored.new.self c.place-then-ne.new.self c.place-then-ne.result) same_rules c.place-then-ne.ensures.line)
-    (told-map d.held (λ es k. write-corrupt d.rules c.args.block.now c.args.reading (state_with d es) (search rules) c.in-Ok-Some.stored (search rules) (search rules) (search rules) ∙ ap (λ v. machine.placed d.rules c.args.block.now v (state_with d es)) (sym c.max-mtime.ensures)) c.in-Ok-Some.ensures.value)
+    (told-map d.held (λ es k. write-corrupt d.rules c.args.block.now c.args.reading (state_with d es) (search rules) c.in-Ok-Some.stored (search rules) (search rules) (search rules) ∙ ap (λ v. machine.placed d.rules c.args.block.now v (state_with d es)) (sym c.renewed_time-mtime.ensures)) c.in-Ok-Some.ensures.value)
