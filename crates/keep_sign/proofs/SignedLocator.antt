@@ -1,7 +1,7 @@
 -- A locator with other permission hints.
 -- Laws: `with_hints-is`, `only-permission`, `unsigned-locator`, `signed-locator`, `signed-whole`, `signed-stripped`, `signed-valid`,
 -- `other-invalid`.
-use Rattle.std.proofs.Common.{◌≡◌, ℕ, ◌+◌, ◌*◌, ◌^◌, ◌<◌, ◌≤◌, Bool, true, false, not, ◌⊎◌, inl, inr, List, [], ◌∷◌, ◌++◌, length, take, if◌then◌else◌, Option, Some, Result, Ok, Err, refl, sym, ap, ◌∙◌, arith, append_assoc, length-append}
+use Rattle.std.proofs.Common.{◌≡◌, ℕ, ◌+◌, ◌^◌, ◌<◌, ◌≤◌, Bool, true, false, not, ◌⊎◌, inl, inr, List, [], ◌∷◌, ◌++◌, length, take, if◌then◌else◌, Option, Some, Result, Ok, Err, refl, sym, ap, ◌∙◌, arith, append_assoc, length-append}
 use Rattle.std.specs.Prelude.{filter}
 use Rattle.std.specs.List.{list_all, concat}
 use Rattle.std.specs.Option.{option_map}
@@ -12,6 +12,7 @@ use Rattle.std.proofs.lemmas.List.Folds.{concat-append, list_all-append}
 use Rattle.std.proofs.lemmas.List.Elements.{filter-append}
 use Rattle.std.proofs.lemmas.Slice.Eq.{bytes_eq-Decides}
 use Rattle.hex.specs.Hex.{encode_lower}
+use Rattle.keep_spec.specs.Times.{nanos}
 use Rattle.keep_spec.specs.Digest.{is_lower_digit, bytes_of_digits}
 use Rattle.keep_spec.specs.Locator.{is_locator, is_empty_block, is_hint, is_permission_hint, permission_of, digest, stripped, size_digits, hints, permission, only_one, IsJoined}
 use Rattle.keep_spec.specs.Sign.{hmac, signed_text, signature_of, judged, verdict}
@@ -159,14 +160,14 @@ signed-digest text token secret expiry ttl whole some = ap bytes_of_digits (sign
 abbrev by_signature : Bool → List ℕ → ℕ → Result Verified Unverified
 by_signature b hash expiry = if b then Ok (record { digest = hash; expiry = expiry }) else Err Invalid
 
-judged-in-time : (p : Permission) (hash token secret : List ℕ) (ttl reading : ℕ) → reading ≤ p.expiry * 1000000000
+judged-in-time : (p : Permission) (hash token secret : List ℕ) (ttl reading : ℕ) → reading ≤ nanos p.expiry
     → judged (Some p) hash token ttl secret reading ≡ by_signature (bytes_eq p.signature (signature_of hash token p.expiry ttl secret)) hash p.expiry
 judged-in-time p hash token secret ttl reading in_time =
     let same = bytes_eq p.signature (signature_of hash token p.expiry ttl secret) in
     let wide : Unverified → Result Verified Unverified = Err in
-    ap (λ b. if b then wide (Expired p.expiry) else by_signature same hash p.expiry) (le-ltb (p.expiry * 1000000000) reading in_time)
+    ap (λ b. if b then wide (Expired p.expiry) else by_signature same hash p.expiry) (le-ltb (nanos p.expiry) reading in_time)
 
-pub signed-valid : (text token secret : List ℕ) (expiry ttl reading : ℕ) → is_locator text ≡ true → is_empty_block text ≡ false → expiry < 2 ^ 32 → reading ≤ expiry * 1000000000
+pub signed-valid : (text token secret : List ℕ) (expiry ttl reading : ℕ) → is_locator text ≡ true → is_empty_block text ≡ false → expiry < 2 ^ 32 → reading ≤ nanos expiry
     → verdict (signed token expiry ttl secret text) token ttl secret reading ≡ Ok (record { digest = digest text; expiry = expiry })
 signed-valid text token secret expiry ttl reading whole some fits in_time =
     let locator = signed token expiry ttl secret text in
@@ -179,7 +180,7 @@ signed-valid text token secret expiry ttl reading whole some fits in_time =
 
 pub other-invalid : (text token secret digest' token' secret' : List ℕ) (expiry ttl expiry' ttl' reading : ℕ)
     → permission text ≡ Some (record { signature = signature_of digest' token' expiry' ttl' secret'; expiry = expiry })
-    → reading ≤ expiry * 1000000000
+    → reading ≤ nanos expiry
     → (verdict text token ttl secret reading ≡ Err Invalid)
     ⊎ (hmac secret (signed_text (encode_lower (digest text)) token expiry ttl) ≡ hmac secret' (signed_text (encode_lower digest') token' expiry' ttl'))
 unfolding signature_of

@@ -1,8 +1,9 @@
 // Laws of the definitions that the calls cite. Each function does nothing: its contract is the law.
-ghost use Rattle.std.specs.Prelude.{◌≡◌, ◌++◌, ◌∷◌, ◌*◌, ◌^◌, ◌<◌, ◌≤◌, ◌⊎◌, [], not, true, false, filter, List, ℕ};
+ghost use Rattle.std.specs.Prelude.{◌≡◌, ◌++◌, ◌∷◌, ◌^◌, ◌<◌, ◌≤◌, ◌⊎◌, [], not, true, false, filter, List, ℕ};
 ghost use Rattle.hex.specs.Hex.{encode_lower};
 ghost use Rattle.keep_spec.specs.Locator.{is_locator, is_empty_block, is_permission_hint, digest, stripped, hints, permission};
 ghost use Rattle.keep_spec.specs.Sign.{hmac, signed_text, signature_of, verdict};
+ghost use Rattle.keep_spec.specs.Times.{nanos};
 ghost use Rattle.keep_spec.specs.SignedText.{unsigned, permission_hint, signed};
 ghost use Rattle.keep_spec.specs.declared.permission.Permission.{Permission};
 ghost use Rattle.keep_spec.specs.declared.unverified.Verified.{Verified};
@@ -19,7 +20,7 @@ pub fn signed_locators_are_valid()
         → hints (signed token expiry ttl secret text)
         ≡ filter (λ h. not (is_permission_hint h)) (hints text) ++ permission_hint (digest text) token expiry ttl secret ∷ [] }
     ensures valid { (text token secret : List ℕ) (expiry ttl reading : ℕ) → is_locator text ≡ true → is_empty_block text ≡ false
-        → expiry < 2 ^ 32 → reading ≤ expiry * 1000000000
+        → expiry < 2 ^ 32 → reading ≤ nanos expiry
         → verdict (signed token expiry ttl secret text) token ttl secret reading ≡ Ok (record { digest = digest text; expiry = expiry }) }
 {}
 
@@ -35,7 +36,7 @@ pub fn unsigned_locators_have_no_permission()
 pub fn other_signatures_are_invalid()
     ensures { (text token secret digest' token' secret' : List ℕ) (expiry ttl expiry' ttl' reading : ℕ)
         → permission text ≡ Some (record { signature = signature_of digest' token' expiry' ttl' secret'; expiry = expiry })
-        → reading ≤ expiry * 1000000000
+        → reading ≤ nanos expiry
         → (verdict text token ttl secret reading ≡ Err Invalid)
         ⊎ (hmac secret (signed_text (encode_lower (digest text)) token expiry ttl) ≡ hmac secret' (signed_text (encode_lower digest') token' expiry' ttl')) }
 {}

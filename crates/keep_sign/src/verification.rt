@@ -4,9 +4,7 @@ ghost use Rattle.keep_spec.specs.Sign.{verdict};
 
 use crate::signature::sign;
 use keep_locator::Locator;
-use keep_spec::{Unverified, Verified};
-
-const NANOSECONDS_PER_SECOND: u64 = 1_000_000_000;
+use keep_spec::{NANOS_PER_SECOND, Unverified, Verified};
 
 /// Checks a locator's signature for a token at a clock reading, and returns the digest and the expiry that it was made for. The reading
 /// is in nanoseconds since 1970, the ttl in seconds. The refusals are tested in this order: `Missing` unless there is exactly one
@@ -24,7 +22,7 @@ pub fn verify(
         return Err(Unverified::Missing);
     };
     let expiry = permission.expiry;
-    if u64::from(expiry) * NANOSECONDS_PER_SECOND < reading {
+    if u64::from(expiry) * NANOS_PER_SECOND < reading {
         return Err(Unverified::Expired { expiry });
     }
     let digest = locator.digest();
