@@ -18,7 +18,7 @@ pub fn named(alloc: Global, manifest: &Manifest) -> Result<Vec<Digest>, NoMemory
     ensures ascending { IfOk result (λ digests. IsStrictlySortedBy (slice_cmp nat_cmp) digests.items) }
     ensures named { IfOk result (λ digests. (h : List ℕ) → Contains digests.items h ↔ Contains (named_by manifest.now) h) }
 {
-    let mut digests = gathered(alloc, manifest)?;
+    let mut digests = collect_named(alloc, manifest)?;
     digests.sort_unstable();
     digests.dedup();
     Ok(digests)
@@ -26,7 +26,7 @@ pub fn named(alloc: Global, manifest: &Manifest) -> Result<Vec<Digest>, NoMemory
 
 // The same in the order of the text, with repetitions.
 #[tactic(auto, unfolding(keep_spec::specs::Manifest::named))]
-fn gathered(alloc: Global, manifest: &Manifest) -> Result<Vec<Digest>, AllocError>
+fn collect_named(alloc: Global, manifest: &Manifest) -> Result<Vec<Digest>, AllocError>
     requires { IsTrue (is_good_manifest manifest.now) }
     ensures { IfOk result (λ digests. digests.items ≡ named_by manifest.now) }
 {

@@ -11,10 +11,10 @@ use std::alloc::{AllocError, Global};
 pub fn decode_name(alloc: Global, text: &[u8]) -> Result<Bytes, NoMemory>
     ensures { IfOk result (λ name. name ≡ decode text.now) }
 {
-    Ok(Bytes::of(decoded(alloc, text)?))
+    Ok(Bytes::of(decode_bytes(alloc, text)?))
 }
 
-fn decoded(alloc: Global, text: &[u8]) -> Result<Vec<u8>, AllocError>
+fn decode_bytes(alloc: Global, text: &[u8]) -> Result<Vec<u8>, AllocError>
     ensures { IfOk result (λ name. name.items ≡ decode text.now) }
 {
     let mut name = Vec::with_capacity(alloc, text.len())?;
@@ -64,11 +64,11 @@ pub fn encode_name(alloc: Global, name: &[u8]) -> Result<Bytes, NoMemory>
     ensures written { IfOk result (λ text. text ≡ encode name.now) }
     ensures read_again { IfOk result (λ text. decode text ≡ name.now) }
 {
-    let text = encoded(alloc, name)?;
+    let text = encode_bytes(alloc, name)?;
     Ok(Bytes::of(text))
 }
 
-fn encoded(alloc: Global, name: &[u8]) -> Result<Vec<u8>, AllocError>
+fn encode_bytes(alloc: Global, name: &[u8]) -> Result<Vec<u8>, AllocError>
     ensures { IfOk result (λ text. text.items ≡ encode name.now) }
 {
     let mut text = Vec::with_capacity(alloc, name.len())?;

@@ -15,12 +15,12 @@ pub fn write(alloc: Global, manifest: &Manifest) -> Result<Bytes, NoMemory>
     ensures written { IfOk result (λ text. text ≡ text_of manifest.now) }
     ensures read_again { IfOk result (λ text. manifest_of text ≡ Some manifest.now) }
 {
-    let text = written(alloc, manifest)?;
+    let text = write_bytes(alloc, manifest)?;
     Ok(Bytes::of(text))
 }
 
 #[tactic(auto, unfolding(keep_spec::specs::Manifest::text_of))]
-fn written(alloc: Global, manifest: &Manifest) -> Result<Vec<u8>, AllocError>
+fn write_bytes(alloc: Global, manifest: &Manifest) -> Result<Vec<u8>, AllocError>
     ensures { IfOk result (λ text. text.items ≡ text_of manifest.now) }
 {
     let mut text = Vec::new(alloc);

@@ -5,8 +5,8 @@ use Rattle.keep_manifest.proofs.DistinctDigests.{dedup_ascends, dedup_keeps}
 use Rattle.keep_manifest.proofs.GoodManifests.{good_is}
 use Rattle.keep_manifest.proofs.digests.named.Goals as goal
 
-pub gathered-requires : goal.gathered-requires
-gathered-requires c = good_is c.args.manifest.now c.requires
+pub collect_named-requires : goal.collect_named-requires
+collect_named-requires c = good_is c.args.manifest.now c.requires
 
 pub returns-clause-ascending : goal.returns-clause-ascending
 returns-clause-ascending c =

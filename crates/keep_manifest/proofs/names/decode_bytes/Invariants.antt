@@ -1,6 +1,6 @@
 use Rattle.std.proofs.Common.{◌≡◌, ◌++◌, length}
 use Rattle.keep_spec.specs.Names.{decode}
-use Rattle.keep_manifest.proofs.names.decoded.Given as goal
+use Rattle.keep_manifest.proofs.names.decode_bytes.Given as goal
 
 abbrev pub invariant-loop-rest : goal.invariant-loop-rest
 invariant-loop-rest l = l.name.items ++ decode l.rest ≡ decode l.text

@@ -2,7 +2,7 @@ use Rattle.std.proofs.Common.{◌≡◌, ◌++◌, [], ◌∙◌, ap, sym, appen
 use Rattle.std.proofs.lemmas.Bool.Decides.{nat_tests}
 use Rattle.keep_spec.specs.Names.{decode}
 use Rattle.keep_manifest.proofs.Decoding.{decode_nothing}
-use Rattle.keep_manifest.proofs.names.decoded.Goals as goal
+use Rattle.keep_manifest.proofs.names.decode_bytes.Goals as goal
 
 pub returns : goal.returns
 returns c =
