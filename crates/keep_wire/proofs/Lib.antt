@@ -1,0 +1,17 @@
+pub mod Answered
+pub mod Apart
+pub mod Begins
+pub mod Body
+pub mod Determined
+pub mod HeadLines
+pub mod InTarget
+pub mod Known
+pub mod Longer
+pub mod Many
+pub mod Next
+pub mod Only
+pub mod Place
+pub mod RequestLines
+pub mod ResponseLines
+pub mod Sent
+pub mod Whole

@@ -1,0 +1,12 @@
+pub mod Ends
+pub mod Fields
+pub mod Looks
+pub mod Messages
+pub mod Replies
+pub mod Requests
+pub mod Sessions
+pub mod Splits
+pub mod Target
+pub mod TargetLaws
+pub mod Told
+pub mod Written
