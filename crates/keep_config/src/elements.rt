@@ -1,7 +1,7 @@
 // What the members of a configuration's lists say.
 ghost use Rattle.std.specs.Prelude.{◌≡◌, IfOk};
 ghost use Rattle.serde_json.specs.View.{view};
-ghost use Rattle.keep_spec.specs.Config.{uuid_at, place_at, addresses_of, device_of, server_of, mount_of};
+ghost use Rattle.keep_spec.specs.Config.{uuid_at, index_at, addresses_of, device_of, server_of, mount_of};
 
 use crate::json;
 use crate::json::Member;
@@ -47,10 +47,10 @@ impl Member for Mount {
         let Some(uuid) = uuid_at(value) else {
             return Ok(None);
         };
-        let Some(server) = place_at(value, "server") else {
+        let Some(server) = index_at(value, "server") else {
             return Ok(None);
         };
-        let Some(device) = place_at(value, "device") else {
+        let Some(device) = index_at(value, "device") else {
             return Ok(None);
         };
         Ok(Some(Mount {
@@ -80,8 +80,8 @@ fn addresses_of(alloc: Global, value: &Value) -> Result<Option<Items<Bytes>>, No
     }
 }
 
-fn place_at(value: &Value, name: &str) -> Option<u32>
-    ensures { result ≡ place_at name.now (view value.now) }
+fn index_at(value: &Value, name: &str) -> Option<u32>
+    ensures { result ≡ index_at name.now (view value.now) }
 {
     let number = json::number_at(value, name)?;
     if number < 1 << 32 {

@@ -5,7 +5,7 @@ use Rattle.std.specs.Fmt.{decimal}
 use Rattle.hex.specs.Hex.{encode_lower}
 use Rattle.md5.specs.Md5.{md5}
 use Rattle.keep_spec.specs.Sign.{hex8, signature_of, verdict}
-use Rattle.keep_spec.specs.Locator.{is_locator, locator_front, is_empty_block, digest, stripped}
+use Rattle.keep_spec.specs.Locator.{is_locator, locator_prefix_len, is_empty_block, digest, stripped}
 use Rattle.keep_spec.specs.Config.{Configuration, token_of}
 use Rattle.keep_spec.specs.Times.{expiry_at}
 use Rattle.keep_spec.specs.declared.config.Device.{Device}
@@ -90,7 +90,7 @@ permitted c id token locator reading empty =
     if is_locator locator
     then
     if is_empty_block locator then Err empty else permitted_block c id token locator reading
-    else Err (O.BadLocator (locator_front locator))
+    else Err (O.BadLocator (locator_prefix_len locator))
 
 -- a task for a digest, where one may be asked for
 abbrev pub with_digest : Result (List ℕ) Outcome → (List ℕ → Result Task Outcome) → Result Task Outcome

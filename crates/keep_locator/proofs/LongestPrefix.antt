@@ -1,10 +1,10 @@
 -- The longest prefix of a text that begins some locator.
--- Laws: `begins-from_test`, `begins-to_test`, `longest`, `locator_front-far`.
+-- Laws: `begins-from_test`, `begins-to_test`, `longest`, `locator_prefix_len-far`.
 use Rattle.std.proofs.Common.{◌≡◌, ℕ, zero, suc, ◌+◌, ◌<◌, ◌≤◌, Bool, true, false, inl, inr, List, ◌++◌, length, take, drop, if◌then◌else◌, refl, sym, ap, ◌∙◌, arith, zero-add}
 use Rattle.std.specs.Prelude.{codes}
 use Rattle.std.proofs.lemmas.Bool.{or_cases, or_left, or_right, false_from_ne_true, cases_eq}
 use Rattle.std.proofs.lemmas.List.{length-take-le}
-use Rattle.keep_spec.specs.Locator.{is_locator, BeginsLocator, IsLongestFront, begins_locator, greatest, locator_front}
+use Rattle.keep_spec.specs.Locator.{is_locator, BeginsLocator, IsLongestPrefix, begins_locator, greatest, locator_prefix_len}
 use Rattle.keep_locator.proofs.ParserStates.{digits, advance, advance-take, advance-le, advance-accepted, front-completed, least}
 use Rattle.keep_locator.proofs.GrammarStates.{accepts-start}
 
@@ -40,7 +40,7 @@ far-taken text = omega (arith, advance-take (digits 0) (far text) text, length-t
 not_longer : (text : List ℕ) (m : ℕ) → far text < m → m ≤ length text → BeginsLocator (take m text) → ⊥
 not_longer text m above within h = omega (arith, advance-take (digits 0) m text, length-take-le m text within, far-begins (take m text) h)
 
-pub longest : (text : List ℕ) → IsLongestFront text (far text)
+pub longest : (text : List ℕ) → IsLongestPrefix text (far text)
 longest text = record {
   within = advance-le (digits 0) text;
   begins = begins-from_test (take (far text) text) (begins_locator-far (take (far text) text) (far-taken text));
@@ -58,8 +58,8 @@ greatest-is p (suc n) a le passes above =
           ∙ greatest-is p n a still passes (λ m lt within. above m lt (omega arith))
     ]
 
-pub locator_front-far : (text : List ℕ) → locator_front text ≡ far text
-unfolding locator_front
-locator_front-far text =
+pub locator_prefix_len-far : (text : List ℕ) → locator_prefix_len text ≡ far text
+unfolding locator_prefix_len
+locator_prefix_len-far text =
     greatest-is (λ n. begins_locator (take n text)) (length text) (far text) (advance-le (digits 0) text) (begins_locator-far (take (far text) text) (far-taken text))
     (λ m above within. false_from_ne_true (begins_locator (take m text)) (λ h. not_longer text m above within (begins-from_test (take m text) h)))

@@ -11,14 +11,14 @@ use Rattle.std.specs.Char.{is_ascii_digit}
 use Rattle.std.specs.List.{list_all, prefix_len}
 use Rattle.std.specs.Option.{option_map}
 use Rattle.keep_spec.specs.Digest.{is_lower_digit, is_digest}
-use Rattle.keep_spec.specs.Locator.{is_locator, IsLongestFront, locator_front, is_number, number, is_hint, hints, size, size_digits}
+use Rattle.keep_spec.specs.Locator.{is_locator, IsLongestPrefix, locator_prefix_len, is_number, number, is_hint, hints, size, size_digits}
 use Rattle.keep_locator.specs.Parsing.{locator_of, IsParsed}
 use Rattle.keep_locator.specs.declared.locator.BadLocator.{BadLocator}
 use Rattle.keep_locator.specs.declared.hint_state.HintState.{HintState}
 use Rattle.keep_locator.specs.declared.hint_state.HintState.TheVariants.{AfterSize, AfterPlus, InHint}
 use Rattle.keep_locator.proofs.ParserStates.{State, digits, counted, placed, step, is_final, accepts, advance, accepts-go, accepts-stop, advance-go, advance-stop}
 use Rattle.keep_locator.proofs.GrammarStates.{accepts-start}
-use Rattle.keep_locator.proofs.LongestPrefix.{far, longest, locator_front-far}
+use Rattle.keep_locator.proofs.LongestPrefix.{far, longest, locator_prefix_len-far}
 
 -- i bytes of the text lead to a state
 pub record Reads (text : List ℕ) (s : State) (i : ℕ) : Type 0 where
@@ -32,14 +32,14 @@ pub record IsRefused (text : List ℕ) (at : ℕ) : Type 0 where
 
 pub refused_answer : (text : List ℕ) (at : ℕ) → IsRefused text at → ◌≡◌ {A = Result (List ℕ) BadLocator} (Err (record { at = at })) (locator_of text)
 refused_answer text at is =
-    let e : at ≡ locator_front text = sym is.place ∙ sym (locator_front-far text) in
-    ap (λ n. Err (record { at = n })) e ∙ sym (ap (λ b. if b then Ok text else Err (record { at = locator_front text })) is.refused)
+    let e : at ≡ locator_prefix_len text = sym is.place ∙ sym (locator_prefix_len-far text) in
+    ap (λ n. Err (record { at = n })) e ∙ sym (ap (λ b. if b then Ok text else Err (record { at = locator_prefix_len text })) is.refused)
 
-pub refused_longest : (text : List ℕ) (at : ℕ) → IsRefused text at → IsLongestFront text at
-refused_longest text at is = let P : ℕ → Type 0 = IsLongestFront text in subst P is.place (longest text)
+pub refused_longest : (text : List ℕ) (at : ℕ) → IsRefused text at → IsLongestPrefix text at
+refused_longest text at is = let P : ℕ → Type 0 = IsLongestPrefix text in subst P is.place (longest text)
 
 pub accepted_answer : (text : List ℕ) → is_locator text ≡ true → ◌≡◌ {A = Result (List ℕ) BadLocator} (Ok text) (locator_of text)
-accepted_answer text whole = sym (ap (λ b. if b then Ok text else Err (record { at = locator_front text })) whole)
+accepted_answer text whole = sym (ap (λ b. if b then Ok text else Err (record { at = locator_prefix_len text })) whole)
 
 -- The steps.
 

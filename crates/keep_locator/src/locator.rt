@@ -4,7 +4,7 @@ ghost use Rattle.std.specs.Option.{option_copied};
 
 use crate::hint::{first_hint, read_permission};
 use crate::hint_state::HintState;
-use keep_spec::{DIGEST_DIGITS, Digest, Permission, digest_front, number_front};
+use keep_spec::{DIGEST_DIGITS, Digest, Permission, digest_prefix_len, number_prefix};
 use std::marker::Model;
 
 /// A text that isn't a locator.
@@ -34,23 +34,23 @@ impl<'a> Model for Locator<'a> {
 }
 
 impl<'a> Locator<'a> {
-    ghost use Rattle.keep_spec.specs.Locator.{IsLongestFront};
+    ghost use Rattle.keep_spec.specs.Locator.{IsLongestPrefix};
     ghost use Rattle.keep_locator.specs.Parsing.{locator_of};
 
     /// Parses a whole text: a digest, `+` and the size in 1 to 19 decimal digits, then hints, each of them `+`, an upper-case letter
     /// and any number of letters, digits, `@`, `_` and `-` (Arvados). On error says how far the text goes (this project's own rule).
     pub fn read(text: &'a [u8]) -> Result<Locator<'a>, BadLocator>
         ensures parsed { result ≡ locator_of text.now }
-        ensures longest { IfErr result (λ e. IsLongestFront text.now e.at) }
+        ensures longest { IfErr result (λ e. IsLongestPrefix text.now e.at) }
     {
-        let digits = digest_front(text);
+        let digits = digest_prefix_len(text);
         if digits < DIGEST_DIGITS {
             return Err(BadLocator { at: digits });
         }
         if !is_plus_at(text, DIGEST_DIGITS) {
             return Err(BadLocator { at: DIGEST_DIGITS });
         }
-        let front = number_front(&text[DIGEST_DIGITS + 1..]);
+        let front = number_prefix(&text[DIGEST_DIGITS + 1..]);
         if front.digits == 0 {
             return Err(BadLocator {
                 at: DIGEST_DIGITS + 1,

@@ -7,7 +7,7 @@ use Rattle.std.proofs.lemmas.Bool.{cases_Bool}
 use Rattle.std.proofs.lemmas.List.{append-nil}
 use Rattle.keep_locator.specs.Parsing.{locator_of}
 use Rattle.keep_locator.specs.declared.locator.BadLocator.{BadLocator}
-use Rattle.keep_spec.specs.Locator.{is_locator, is_empty_block, locator_front, digest, is_permission_hint, hints, stripped}
+use Rattle.keep_spec.specs.Locator.{is_locator, is_empty_block, locator_prefix_len, digest, is_permission_hint, hints, stripped}
 use Rattle.keep_spec.specs.SignedText.{changed, unsigned, permission_hint, signed}
 
 -- Hints that are no permissions.
@@ -31,7 +31,7 @@ unsigned-is locator = refl
 -- A token that is a locator.
 
 abbrev answer : Bool → List ℕ → Result (List ℕ) BadLocator
-answer b text = if b then Ok text else Err (record { at = locator_front text })
+answer b text = if b then Ok text else Err (record { at = locator_prefix_len text })
 
 read-ok : (b : Bool) (text locator : List ℕ) → Ok locator ≡ answer b text → (b ≡ true) × (locator ≡ text)
 read-ok true text locator e = (refl, cc e)

@@ -1,4 +1,4 @@
--- The configuration: what each field must be, and what a text says. This is the project's own format.
+-- The configuration: what each field must be, and how a text is parsed. This is the project's own format.
 use Rattle.std.specs.Prelude.{ℕ, zero, suc, ◌^◌, ◌==◌, ◌&&◌, nat_le, nat_lt, List, [], ◌∷◌, length, map, filter, slice_index_or, Bool, true, not, IsTrue, Option, Some, is_some, bytes_eq, ok_or, option_and_then, option_map, Result, Ok, Err, if◌then◌else◌, codes}
 use Rattle.std.specs.List.{list_all, list_any, position_from}
 use Rattle.serde_json.specs.Data.{Data}
@@ -13,7 +13,7 @@ use Rattle.keep_spec.specs.declared.token.TokenId.{TokenId}
 use Rattle.keep_spec.specs.declared.config.Field.{Field}
 use Rattle.keep_spec.specs.declared.config.Field.TheVariants.{Line, Cluster, Ttl, Skew, Secret, SystemToken, Tokens, Devices, Servers, Mounts, Versions, TrashLife, IndexDigits, ScanLimit, Unknown}
 
--- how a field is called
+-- a field's name
 abbrev pub field_name : Field → List ℕ
 field_name Line = codes "Line"
 field_name Cluster = codes "cluster"
@@ -92,12 +92,12 @@ abbrev pub are_servers : List Server → Bool
 are_servers servers =
     is_within 1 64 (length servers) && list_all is_server servers && all_distinct (map (λ s. s.uuid) servers)
 
--- a mount, where there are so many devices and servers
+-- a mount, given the numbers of devices and servers
 abbrev pub is_mount : ℕ → ℕ → Mount → Bool
 is_mount devices servers m =
     bytes_eq (uuid_kind m.uuid) (codes "nyw5e") && nat_lt m.device devices && nat_lt m.server servers
 
--- each of so many devices has a mount
+-- each of n devices has a mount
 abbrev pub all_mounted : ℕ → List Mount → Bool
 all_mounted zero mounts = true
 all_mounted (suc n) mounts = list_any (λ m. m.device == n) mounts && all_mounted n mounts
@@ -135,9 +135,9 @@ pub record IsGood (c : Configuration) : Type 0 where
   pub index_digits : IsTrue (is_index_digits c.index_digits)
   pub scan_limit : IsTrue (is_scan_limit c.scan_limit)
 
--- ---- what a text says
+-- ---- how a text is parsed
 
--- the number at a name, or the default where the name isn't there
+-- the number under a name, or the default where the name is absent
 abbrev pub number_or : ℕ → List ℕ → Data → Option ℕ
 number_or default name d = if is_some (get name d) then number_at name d else Some default
 
@@ -158,14 +158,14 @@ server_of d =
     option_and_then (λ uuid. option_map (λ addresses. record { uuid = uuid; addresses = addresses })
     (addresses_of d)) (uuid_at d)
 
--- a number of 32 bits
-abbrev pub place_at : List ℕ → Data → Option ℕ
-place_at name d = option_filter (λ n. nat_lt n (2 ^ 32)) (number_at name d)
+-- an index: a number of 32 bits
+abbrev pub index_at : List ℕ → Data → Option ℕ
+index_at name d = option_filter (λ n. nat_lt n (2 ^ 32)) (number_at name d)
 
 abbrev pub mount_of : Data → Option Mount
 mount_of d =
     option_and_then (λ uuid. option_and_then (λ server. option_map (λ device. record { uuid = uuid; server = server; device = device })
-    (place_at (codes "device") d)) (place_at (codes "server") d)) (uuid_at d)
+    (index_at (codes "device") d)) (index_at (codes "server") d)) (uuid_at d)
 
 abbrev pub device_names : List (List ℕ)
 device_names = codes "capacity" ∷ codes "read_only" ∷ []
@@ -182,7 +182,7 @@ field_names =
     ∷ codes "devices" ∷ codes "servers" ∷ codes "mounts"
     ∷ codes "versions" ∷ codes "trash_life" ∷ codes "index_digits" ∷ codes "scan_limit" ∷ []
 
--- no name stands there that isn't one of these
+-- every name, at any depth, is one of these
 abbrev pub all_known : Data → Bool
 all_known d =
     has_only field_names d && each_has_only device_names (codes "devices") d
@@ -195,7 +195,7 @@ field name test found = ok_or (option_filter test found) name
 abbrev pub is_object : Data → Bool
 is_object d = is_some (as_object d)
 
--- the fields in order: the first that isn't as said is the answer
+-- the fields in order: the first that isn't as required is the error
 abbrev pub config_of_object : Data → Result Configuration Field
 config_of_object d = do
   cluster ← field Cluster is_cluster (text_at (codes "cluster") d)
@@ -227,7 +227,7 @@ config_of_object d = do
     scan_limit = scan_limit;
   }) else Err Unknown
 
--- the configuration of a text, or what of it is wrong
+-- the configuration that a text writes, or what is wrong with it
 unfoldable pub config_of : List ℕ → Result Configuration Field
 config_of text = do
   d ← field Line is_object (value_of text)
@@ -235,7 +235,7 @@ config_of text = do
 
 -- ---- what follows from a configuration
 
--- the number of a token: 0 is the system token, 1 and up are the others in order
+-- a token's number: 0 is the system token, 1 and up are the others in order
 abbrev pub token_of : Configuration → List ℕ → Option TokenId
 token_of c text =
     option_map (λ n. record { number = n }) (position_from (bytes_eq text) 0 (c.system_token ∷ c.tokens))
@@ -243,11 +243,11 @@ token_of c text =
 abbrev pub token_text : Configuration → TokenId → List ℕ
 token_text c token = slice_index_or (c.system_token ∷ c.tokens) token.number []
 
--- each of a list once, at its first place
+-- each member of a list once, at its first occurrence
 abbrev pub firsts : List ℕ → List ℕ
 firsts [] = []
 firsts (x ∷ xs) = x ∷ filter (λ y. not (x == y)) (firsts xs)
 
--- the devices of a server's mounts in order, each once
+-- the devices of a server's mounts, each once, in the order of the mounts
 abbrev pub devices_of : Configuration → ℕ → List ℕ
 devices_of c server = firsts (map (λ m. m.device) (filter (λ m. m.server == server) c.mounts))

@@ -9,7 +9,7 @@ is_lower_digit c = (nat_le 48 c && nat_le c 57) || (nat_le 97 c && nat_le c 102)
 abbrev pub lower_digit_value : ℕ → ℕ
 lower_digit_value c = if nat_lt c 58 then c - 48 else c - 87
 
--- the bytes that pairs of digits write, the high four bits first
+-- the bytes that pairs of digits write, high four bits first
 unfoldable pub bytes_of_digits : List ℕ → List ℕ
 bytes_of_digits [] = []
 bytes_of_digits (high ∷ []) = []

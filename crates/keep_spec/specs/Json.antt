@@ -25,11 +25,11 @@ abbrev pub members_length : Members → ℕ
 members_length no_members = 0
 members_length (member k d ms) = members_length ms + 1
 
--- an object of so many members, each name counted once
+-- an object of n members, each name counted once
 abbrev pub has_members : ℕ → Data → Bool
 has_members n d = unwrap_or (option_map (λ ms. members_length ms == n) (as_object d)) (1 == 0)
 
--- what is there, where it passes a test
+-- the value, if it passes a test
 abbrev pub option_filter : {X : Type 0} → (X → Bool) → Option X → Option X
 option_filter test o = option_and_then (λ x. if test x then Some x else None) o
 

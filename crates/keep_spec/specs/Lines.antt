@@ -2,7 +2,7 @@
 use Rattle.std.specs.Prelude.{ℕ, ◌+◌, ◌==◌, ◌&&◌, nat_lt, nat_le, List, [], ◌∷◌, if◌then◌else◌}
 use Rattle.std.specs.List.{onto_first}
 
--- the input cut behind each newline: each piece but the last ends with a newline, and none has another
+-- the input cut after each newline: each piece but the last ends with a newline, and none has another
 unfoldable pub cut : List ℕ → List (List ℕ)
 cut [] = []
 cut (x ∷ xs) = if x == 10 then (x ∷ []) ∷ cut xs else onto_first x (cut xs)
@@ -17,7 +17,7 @@ pub data Verdict : Type 0 where
   line_too_long : Verdict
   input_too_long : Verdict
 
--- a piece whose text has `text` bytes and that has `piece` bytes, where the input had `before` bytes before it: the error whose byte comes first, and the line's at a tie
+-- of a piece of `piece` bytes, `text` without its newline, after `before` bytes of the input: the error whose byte comes first, and the line's at a tie
 abbrev pub verdict_of : ℕ → ℕ → ℕ → ℕ → ℕ → Verdict
 verdict_of line_max input_max before text piece =
     if nat_lt line_max text && nat_le (before + line_max) input_max then line_too_long

@@ -32,9 +32,9 @@ cut_before_plus (x ∷ []) = (x ∷ []) ∷ []
 cut_before_plus (x ∷ y ∷ rest) =
     if y == 43 then (x ∷ []) ∷ cut_before_plus (y ∷ rest) else onto_first x (cut_before_plus (y ∷ rest))
 
--- The parts of a text, each of them what it says where the text is a locator.
+-- The parts of a locator. Each is defined on every text.
 
--- the digits of the size, which stand behind the digest and its `+`
+-- the digits of the size, which follow the digest and its `+`
 unfoldable pub size_digits : List ℕ → List ℕ
 size_digits text = take_while is_ascii_digit (drop 33 text)
 
@@ -59,7 +59,7 @@ is_locator text =
 unfoldable pub is_empty_block : List ℕ → Bool
 is_empty_block text = (size text == 0) && bytes_eq (take 32 text) (codes "d41d8cd98f00b204e9800998ecf8427e")
 
--- The same in the words of the grammar: a digest, `+`, a number and hints, one behind another.
+-- The same as a grammar: a digest, `+`, a number and hints, one after another.
 pub record IsJoined (text digits number : List ℕ) (hints : List (List ℕ)) : Type 0 where
   pub joined : text ≡ digits ++ 43 ∷ number ++ concat hints
   pub a_digest : is_digest digits ≡ true
@@ -82,25 +82,25 @@ only_one [] = None
 only_one (x ∷ []) = Some x
 only_one (x ∷ y ∷ rest) = None
 
--- what the one permission hint says; none where there are none or several
+-- the one permission hint, parsed; none where there are none or several
 unfoldable pub permission : List ℕ → Option Permission
 permission text = option_map permission_of (only_one (filter is_permission_hint (hints text)))
 
--- Where a text stops being the front of a locator.
+-- Where a text stops being a prefix of a locator.
 
 abbrev pub BeginsLocator : List ℕ → Type 0
-BeginsLocator front = (more : List ℕ) × (is_locator (front ++ more) ≡ true)
+BeginsLocator prefix = (more : List ℕ) × (is_locator (prefix ++ more) ≡ true)
 
--- n bytes of the text are the longest front of it that begins some locator
-pub record IsLongestFront (text : List ℕ) (n : ℕ) : Type 0 where
+-- the first n bytes of the text are its longest prefix that begins some locator
+pub record IsLongestPrefix (text : List ℕ) (n : ℕ) : Type 0 where
   pub within : n ≤ length text
   pub begins : BeginsLocator (take n text)
   pub longest : (m : ℕ) → n < m → m ≤ length text → BeginsLocator (take m text) → ⊥
 
--- the same as a test: what begins a locator is completed by a part of the least locator, or by the letter that a `+` wants
+-- the same as a test: a prefix of a locator is completed by the rest of the least locator, or by the letter that must follow a `+`
 unfoldable pub begins_locator : List ℕ → Bool
-begins_locator front =
-    is_locator (front ++ drop (length front) (replicate 32 48 ++ codes "+0")) || is_locator (front ++ codes "A")
+begins_locator prefix =
+    is_locator (prefix ++ drop (length prefix) (replicate 32 48 ++ codes "+0")) || is_locator (prefix ++ codes "A")
 
 -- the greatest number up to n that passes, and 0 where none does
 abbrev pub greatest : (ℕ → Bool) → ℕ → ℕ
@@ -108,5 +108,5 @@ greatest p zero = 0
 greatest p (suc n) = if p (suc n) then suc n else greatest p n
 
 -- how many bytes of a text begin some locator
-unfoldable pub locator_front : List ℕ → ℕ
-locator_front text = greatest (λ n. begins_locator (take n text)) (length text)
+unfoldable pub locator_prefix_len : List ℕ → ℕ
+locator_prefix_len text = greatest (λ n. begins_locator (take n text)) (length text)

@@ -41,7 +41,7 @@ is_within total s = nat_le (s.position + s.size) total
 abbrev pub is_segment : ℕ → Segment → Bool
 is_segment total s = is_named s && is_within total s
 
--- the segment that a token says in a stream of `total` bytes
+-- the segment that a token writes in a stream of `total` bytes
 abbrev pub segment_of : ℕ → List ℕ → Option Segment
 segment_of total token = segment_form token >>= λ s. if is_segment total s then Some s else None
 
@@ -49,7 +49,7 @@ segment_of total token = segment_form token >>= λ s. if is_segment total s then
 abbrev pub total_size : List (List ℕ) → ℕ
 total_size locators = sum_by size locators
 
--- what f gives of each, and nothing where it gives nothing of one
+-- f of each member, and none where f is none of one
 abbrev pub each : {X Y : Type 0} → (X → Option Y) → List X → Option (List Y)
 each f [] = Some []
 each f (x ∷ xs) = do
@@ -73,7 +73,7 @@ stream_of_tokens (name ∷ tokens) = stream_of_parts (decode name) (take_while i
 abbrev pub stream_of : List ℕ → Option Stream
 stream_of line = stream_of_tokens (slice_split (λ b. b == 32) line)
 
--- each line ends with a newline: nothing stands behind the last one
+-- each line ends with a newline: nothing follows the last one
 abbrev pub streams_of : List (List ℕ) → Option (List Stream)
 streams_of [] = Some []
 streams_of (line ∷ []) = if length line == 0 then Some [] else None
@@ -82,11 +82,11 @@ streams_of (line ∷ next ∷ more) = do
   ss ← streams_of (next ∷ more)
   Some (s ∷ ss)
 
--- the manifest of a text, where it is one
+-- the manifest that a text writes, if it is one
 unfoldable pub manifest_of : List ℕ → Option Manifest
 manifest_of text = option_map (λ ss. record { streams = ss }) (streams_of (slice_split (λ b. b == 10) text))
 
--- A manifest is good where some text reads to it.
+-- A manifest is good if some text writes it.
 abbrev pub IsGood : Manifest → Type 0
 IsGood m = (text : List ℕ) × (manifest_of text ≡ Some m)
 

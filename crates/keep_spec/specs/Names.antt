@@ -38,7 +38,7 @@ is_escaped b = nat_le b 32 || b == 58 || b == 92
 abbrev pub encode_byte : ℕ → List ℕ
 encode_byte b = if is_escaped b then 92 ∷ (b / 64 + 48) ∷ (b / 8 % 8 + 48) ∷ (b % 8 + 48) ∷ [] else b ∷ []
 
--- a name as it is written: each byte by itself
+-- a name as it is written, byte by byte
 abbrev pub encode : List ℕ → List ℕ
 encode name = flat_map encode_byte name
 

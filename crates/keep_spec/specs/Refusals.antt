@@ -17,7 +17,7 @@ abbrev pub bad_form : ℕ → Option Segment → Option Kind
 bad_form total None = Some BadSegment
 bad_form total (Some s) = if not (is_named s) then Some BadName else (if not (is_within total s) then Some PastEnd else None)
 
--- what is wrong with a segment's token in a stream of `total` bytes
+-- what is wrong with the token of a segment in a stream of `total` bytes
 abbrev pub bad_segment : ℕ → List ℕ → Option Kind
 bad_segment total token = bad_form total (segment_form token)
 
@@ -49,7 +49,7 @@ bad_tokens at end (name ∷ tokens) =
 abbrev pub bad_line : ℕ → List ℕ → Option Refusal
 bad_line at line = bad_tokens at (at + length line) (slice_split (λ b. b == 32) line)
 
--- the pieces of a text between its newlines; what stands behind the last one is judged as a line, and its end then
+-- the pieces of a text between its newlines; what follows the last one is tested as a line, and then for its newline
 abbrev pub bad_pieces : ℕ → List (List ℕ) → Option Refusal
 bad_pieces at [] = None
 bad_pieces at (last ∷ []) = if length last == 0 then None else option_or (bad_line at last) (refused (at + length last) NoNewline)

@@ -42,7 +42,7 @@ signed_text digits token expiry ttl =
 unfoldable pub signature_of : List ℕ → List ℕ → ℕ → ℕ → List ℕ → List ℕ
 signature_of digest token expiry ttl secret = encode_lower (hmac secret (signed_text (encode_lower digest) token expiry ttl))
 
--- what a permission says of a digest at a reading in nanoseconds: no single hint, then an expiry that has passed, then another signature
+-- verifies a permission for a digest at a reading: first that there is a single hint, then its expiry, then its signature
 abbrev pub judged : Option Permission → List ℕ → List ℕ → ℕ → List ℕ → ℕ → Result Verified Unverified
 judged None digest token ttl secret reading = Err Missing
 judged (Some p) digest token ttl secret reading =
@@ -50,6 +50,6 @@ judged (Some p) digest token ttl secret reading =
     else if bytes_eq p.signature (signature_of digest token p.expiry ttl secret) then Ok (record { digest = digest; expiry = p.expiry })
     else Err Invalid
 
--- what a locator's text says of itself at a reading
+-- verifies the permission hint of a locator's text at a reading
 abbrev pub verdict : List ℕ → List ℕ → ℕ → List ℕ → ℕ → Result Verified Unverified
 verdict text token ttl secret reading = judged (permission text) (digest text) token ttl secret reading

@@ -21,7 +21,7 @@ signed token expiry ttl secret locator =
 abbrev pub ends_token : ℕ → Bool
 ends_token c = (c == 32) || (c == 10)
 
--- a text cut behind each space and newline: each piece is a token, and what ends it
+-- a text cut after each space and newline: each piece is a token with what ends it
 unfoldable pub cut_tokens : List ℕ → List (List ℕ)
 cut_tokens [] = []
 cut_tokens (x ∷ xs) = if ends_token x then (x ∷ []) ∷ cut_tokens xs else onto_first x (cut_tokens xs)
@@ -29,10 +29,10 @@ cut_tokens (x ∷ xs) = if ends_token x then (x ∷ []) ∷ cut_tokens xs else o
 abbrev pub token_of : List ℕ → List ℕ
 token_of piece = take_while (λ c. not (ends_token c)) piece
 
--- a token through f, where it is a locator
+-- f of a token, if it is a locator
 abbrev pub changed : (List ℕ → List ℕ) → List ℕ → List ℕ
 changed f token = if is_locator token then f token else token
 
--- a text with each of its locators through f; all else stays
+-- a text with each of its locators replaced by f of it; all else stays
 unfoldable pub with_locators : (List ℕ → List ℕ) → List ℕ → List ℕ
 with_locators f text = flat_map (λ piece. changed f (token_of piece) ++ drop (length (token_of piece)) piece) (cut_tokens text)

@@ -5,7 +5,7 @@ use Rattle.keep_spec.specs.Locator.{stripped}
 use Rattle.keep_spec.specs.SignedText.{with_locators}
 use Rattle.keep_spec.specs.declared.portable.Portable.{Portable}
 
--- the text with each locator cut behind its size; all else stays
+-- the text with each locator cut after its size; all else stays
 abbrev pub stripped_text : List ℕ → List ℕ
 stripped_text text = with_locators stripped text
 

@@ -2,45 +2,67 @@
 use crate::{Bytes, Items, Uuid};
 use std::fmt;
 
-/// A device: how many bytes its replicas may have together, and whether it takes no change of them.
+/// A device of the configuration.
 #[derive(Clone, Copy, Debug, PartialEq, Eq)]
 pub struct Device {
+    /// The most bytes that its replicas and trashed copies may have together, at most 2^40.
     pub capacity: u64,
+    /// Whether it refuses every change of its replicas.
     pub read_only: bool,
 }
 
-/// A server: its name, and the addresses at which it listens.
+/// A server of the configuration.
 #[derive(Drop, Debug, PartialEq, Eq)]
 pub struct Server {
+    /// Its name, of kind `bi6l4`.
     pub uuid: Uuid,
+    /// The addresses on which it listens, at most 8.
     pub addresses: Items<Bytes>,
 }
 
-/// A device on a server, both by their numbers in the configuration's order.
+/// A mount of the configuration: a server's access to a device.
 #[derive(Clone, Copy, Debug, PartialEq, Eq)]
 pub struct Mount {
+    /// Its name, of kind `nyw5e`.
     pub uuid: Uuid,
+    /// The server's index in the configuration, from 0.
     pub server: u32,
+    /// The device's index in the configuration, from 0.
     pub device: u32,
 }
 
-/// What of a configuration is wrong: a field, `Line` where the text is no JSON object, or `Unknown` where all fields are right and a name stands there that isn't one of them.
+/// What is wrong with a configuration: the first field, in this order, that is missing without a default or isn't as required. It is shown as `name` says.
 #[derive(Clone, Copy, Debug, PartialEq, Eq)]
 pub enum Field {
+    /// The text isn't a JSON object, or there is none.
     Line,
+    /// The cluster's name: text, 5 characters of `a-z0-9`.
     Cluster,
+    /// The lifetime of signatures: 1 to 10^8 seconds.
     Ttl,
+    /// The most by which two clocks may differ: 0 to 3600 seconds.
     Skew,
+    /// The key of signatures: text, 1 to 4096 bytes.
     Secret,
+    /// The system's token: text, 1 to 250 characters from `!` to `~`.
     SystemToken,
+    /// The clients' tokens: 1 to 1000 such texts, distinct, and other than the system token.
     Tokens,
+    /// The devices: 1 to 64 objects of `capacity` and `read_only`.
     Devices,
+    /// The servers: 1 to 64 objects of `uuid` and `addresses`, the UUIDs distinct.
     Servers,
+    /// The mounts: 1 to 256 objects of `uuid`, `server` and `device`, the UUIDs distinct, and each device in one of them.
     Mounts,
+    /// How many versions of a collection are held besides the current one: 1 to 1000.
     Versions,
+    /// How long a trashed copy is kept: 0 to 10^8 seconds.
     TrashLife,
+    /// How many hexadecimal digits a round's pages are split by: so far 0 alone.
     IndexDigits,
+    /// How many records a page of a scan has at most: 1 to 100000.
     ScanLimit,
+    /// Every field is as required, and some object has a name that isn't known there.
     Unknown,
 }
 
@@ -48,7 +70,7 @@ impl Field {
     ghost use Rattle.std.specs.Prelude.{◌≡◌};
     ghost use Rattle.keep_spec.specs.Config.{field_name};
 
-    /// How the field is called, in a configuration and in messages.
+    /// The field's name, in a configuration and in messages.
     pub fn name(self) -> &'static str
         ensures { result.now ≡ field_name self }
     {

@@ -20,11 +20,11 @@ mod uuid;
 
 pub use bytes::Bytes;
 pub use config::{Device, Field, Mount, Server};
-pub use digest::{DIGEST_DIGITS, Digest, digest_front, is_lower_digit};
+pub use digest::{DIGEST_DIGITS, Digest, digest_prefix_len, is_lower_digit};
 pub use items::Items;
 pub use manifest::{Kind, Manifest, Refusal, Segment, Stream};
 pub use memory::NoMemory;
-pub use number::{NUMBER_DIGITS, NumberFront, number_front, read_number};
+pub use number::{NUMBER_DIGITS, NumberPrefix, number_prefix, read_number};
 pub use permission::Permission;
 pub use portable::{PORTABLE_MAX, Portable};
 pub use status::{AuditFault, Status};

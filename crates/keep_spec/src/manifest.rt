@@ -14,6 +14,7 @@ pub struct Stream {
     pub name: Bytes,
     /// The locators as they are written, hints included.
     pub locators: Items<Bytes>,
+    /// The parts of files, in the order of the text.
     pub segments: Items<Segment>,
 }
 
@@ -52,5 +53,6 @@ pub enum Kind {
 pub struct Refusal {
     /// The offset, in bytes of the text, of the token that is refused, or of the end that comes too early.
     pub at: usize,
+    /// What is wrong there.
     pub kind: Kind,
 }

@@ -1,7 +1,7 @@
-// The one refusal that comes without a cause that a contract can name.
+// The one error whose cause no contract can name.
 use std::alloc::AllocError;
 
-/// Memory was refused. A call that answers it has changed nothing, but where its own page says otherwise.
+/// The allocator refused memory: the only error that every contract permits. It leaves everything unchanged unless documented otherwise.
 #[derive(Clone, Copy, Debug, PartialEq, Eq)]
 pub struct NoMemory;
 

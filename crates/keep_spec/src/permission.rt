@@ -1,8 +1,10 @@
-// What a permission hint of a locator says.
+// The permission hint of a locator (Arvados).
 
-/// A permission hint: the 40 lower-case digits of its signature, and its expiry in seconds since 1970.
+/// A parsed permission hint.
 #[derive(Clone, Copy, Debug, PartialEq, Eq)]
 pub struct Permission {
+    /// 40 hexadecimal digits in lower case.
     pub signature: [u8; 40],
+    /// Seconds since 1970.
     pub expiry: u32,
 }

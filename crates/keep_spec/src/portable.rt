@@ -6,20 +6,22 @@ use crate::digest::DIGEST_DIGITS;
 use crate::number::read_number;
 use itoa::Buffer;
 
-/// How many bytes a portable data hash takes at most.
+/// The most bytes that the text of a portable data hash has.
 pub const PORTABLE_MAX: usize = 53;
 
-/// The MD5 of a manifest's stripped text, and that text's length in bytes.
+/// The portable data hash of a manifest (Arvados).
 #[derive(Clone, Copy, Debug, PartialEq, Eq)]
 pub struct Portable {
+    /// The MD5 of the manifest's stripped text.
     pub digest: Digest,
+    /// The length of the stripped text, in bytes.
     pub size: u64,
 }
 
 impl Portable {
     ghost use Rattle.keep_spec.specs.Portable.{portable_of, portable_text};
 
-    /// Reads exactly a digest, `+` and 1 to 19 decimal digits.
+    /// Parses exactly a digest, `+` and 1 to 19 decimal digits; `None` for any other text.
     pub fn read(text: &[u8]) -> Option<Portable>
         ensures { result ≡ portable_of text.now }
     {
@@ -34,7 +36,7 @@ impl Portable {
         Some(Portable { digest, size })
     }
 
-    /// The digest, `+` and the length in decimal, as the first bytes of an array of which all others are 0, and how many bytes these are.
+    /// Its text: the digest, `+` and the length in decimal. Returns an array that begins with the text and is 0 after it, and the text's length.
     pub fn write(&self) -> ([u8; PORTABLE_MAX], usize)
         ensures len { result.1 ≡ length (portable_text self.now) }
         ensures text { take result.1 result.0 ≡ portable_text self.now }
@@ -50,7 +52,7 @@ impl Portable {
     }
 }
 
-// Writes bytes over those of a text from a place on.
+// Overwrites the bytes from `at` on.
 fn put_at(text: &mut [u8], at: usize, bytes: &[u8])
     requires { at + length bytes.now ≤ length text.old }
     ensures { text.new ≡ take at text.old ++ bytes.now ++ drop (at + length bytes.now) text.old }

@@ -1,7 +1,8 @@
 // The number of a token.
 
-/// The number of a token of the configuration: 0 is the system token, 1 and up are the others in the configuration's order.
+/// A token of the configuration.
 #[derive(Clone, Copy, Debug, PartialEq, Eq, PartialOrd, Ord)]
 pub struct TokenId {
+    /// 0 is the system token, 1 and up are the others in the configuration's order.
     pub number: u32,
 }

@@ -1,11 +1,11 @@
-// The names of services and mounts.
+// The names of collections, services and mounts.
 ghost use Rattle.std.specs.Prelude.{◌≡◌, IsTrue, length};
 ghost use Rattle.std.specs.Result.{OkIff};
 ghost use Rattle.keep_spec.specs.Uuid.{is_uuid, is_uuid_part, uuid_kind};
 
 use std::marker::Model;
 
-/// A UUID in the form of Arvados: 27 characters, 5, `-`, 5, `-` and 15, where all others are of `a-z0-9`. It is seen as its characters.
+/// A UUID of Arvados: 27 characters, `-` at the 6th and the 12th place and `a-z0-9` elsewhere. Contracts see the list of its characters.
 #[derive(Clone, Copy, Debug, PartialEq, Eq, PartialOrd, Ord)]
 pub struct Uuid {
     bytes: [u8; 27],
@@ -29,7 +29,7 @@ impl Model for Uuid {
 pub struct BadUuid;
 
 impl Uuid {
-    /// Reads a UUID, with any middle part.
+    /// Parses a UUID of any kind; `BadUuid` for any other text.
     pub fn read(text: &[u8]) -> Result<Uuid, BadUuid>
         ensures { OkIff result (IsTrue (is_uuid text.now)) text.now }
     {
@@ -41,6 +41,7 @@ impl Uuid {
         Ok(Uuid { bytes })
     }
 
+    /// Its 27 characters.
     pub fn as_bytes(&self) -> &[u8; 27]
         ensures text { result.now ≡ self.now }
         ensures form { IsTrue (is_uuid self.now) }

@@ -2,7 +2,7 @@ use Rattle.std.proofs.Common.{◌≡◌, ◌≤◌, ◌<◌, ◌+◌, ◌^◌, d
 use Rattle.std.specs.Char.{is_ascii_digit}
 use Rattle.std.specs.List.{prefix_len}
 use Rattle.keep_spec.specs.Locator.{number}
-use Rattle.keep_spec.proofs.number.number_front.Given as goal
+use Rattle.keep_spec.proofs.number.number_prefix.Given as goal
 
 abbrev pub invariant-loop-digits : goal.invariant-loop-digits
 invariant-loop-digits l = record {

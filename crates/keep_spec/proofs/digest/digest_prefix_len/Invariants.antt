@@ -1,7 +1,7 @@
 use Rattle.std.proofs.Common.{◌≡◌, ◌≤◌, ◌+◌, drop}
 use Rattle.std.specs.List.{prefix_len}
 use Rattle.keep_spec.specs.Digest.{is_lower_digit}
-use Rattle.keep_spec.proofs.digest.digest_front.Given as goal
+use Rattle.keep_spec.proofs.digest.digest_prefix_len.Given as goal
 
 abbrev pub invariant-loop-count : goal.invariant-loop-count
 invariant-loop-count l = record {

@@ -2,7 +2,7 @@ use Rattle.std.proofs.Common.{◌≡◌, get_or, true, arith, sym, ◌∙◌}
 use Rattle.std.proofs.lemmas.List.Sums.{prefix_len-drop_yes}
 use Rattle.std.specs.Char.{is_ascii_digit}
 use Rattle.keep_spec.proofs.NumberText.{number-take-more, digit-range, ten-suc, ten-le}
-use Rattle.keep_spec.proofs.number.number_front.Goals as goal
+use Rattle.keep_spec.proofs.number.number_prefix.Goals as goal
 
 pub overflow_mul-value : goal.overflow_mul-value
 overflow_mul-value c = omega (arith, ten-le c.loop-digits.digits 18 (omega arith))
