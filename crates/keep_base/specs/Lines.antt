@@ -1,6 +1,6 @@
--- What the lines of a source tell.
+-- What a reader of lines has done and has left, and what comes next. Bounds are those of keep_base/src/lines.
 use Rattle.std.specs.Prelude.{◌≡◌, ℕ, ◌+◌, List, [], ◌∷◌, length, drop, Option, None, Some, Result, Ok, Err, ⊤}
-use Rattle.std.specs.Io.KnownBytes.{prepend_known}
+use Rattle.std.specs.Io.KnownBytes.{prepend_known, IsAtEnd}
 use Rattle.keep_spec.specs.Lines.{cut, text_of, Verdict, fits, line_too_long, input_too_long, verdict_of}
 use Rattle.keep_base.specs.declared.lines.Line.{Line}
 use Rattle.keep_base.specs.declared.lines.Lines.{Lines}
@@ -9,15 +9,15 @@ use Rattle.keep_base.specs.declared.lines.LineError.{LineError}
 use Rattle.keep_base.specs.declared.lines.LineError.TheVariants.{ReadFault, LineTooLong, InputTooLong, NoMemory}
 use Rattle.keep_base.specs.declared.lines.TheConstants.{LINE_MAX, INPUT_MAX}
 
--- the bytes that no line was given of, where the source tells
+-- the bytes of no line that was returned, where the source tells them
 abbrev pub lines_left : {R : Type 0} {G : Ghosts R} → Lines R G → Option (List ℕ)
 lines_left {R} {G} lines = prepend_known (drop lines.start lines.pending.items) (G.left lines.source.now)
 
--- the error that it answers from now on
+-- the error that every call returns from now on
 abbrev pub lines_failed : {R : Type 0} {G : Ghosts R} → Lines R G → Option LineError
 lines_failed lines = lines.failed
 
--- how many bytes and how many lines were given
+-- how many bytes and how many lines were returned
 abbrev pub lines_taken : {R : Type 0} {G : Ghosts R} → Lines R G → ℕ
 lines_taken lines = lines.taken
 
@@ -31,11 +31,18 @@ lines_source lines = lines.source.now
 abbrev pub lines_name : {R : Type 0} {G : Ghosts R} → Lines R G → ℕ
 lines_name lines = lines.source.ghost_name
 
--- the piece that comes next of these bytes has this verdict
+-- the input has ended: nothing is read ahead, nothing is left of the source, and no byte or line was counted
+pub record IsEnd {R : Type 0} {G : Ghosts R} (old new : Lines R G) : Type 0 where
+  pub none_ahead : drop new.start new.pending.items ≡ []
+  pub none_left : IsAtEnd (G.left new.source.now)
+  pub taken_stays : lines_taken new ≡ lines_taken old
+  pub number_stays : lines_number new ≡ lines_number old
+
+-- the next piece of these bytes has this verdict
 abbrev pub IsNextJudged : ℕ → List ℕ → Verdict → Type 0
 IsNextJudged taken bytes verdict = (piece : List ℕ) × ((rest : List (List ℕ)) × ((cut bytes ≡ piece ∷ rest) × (verdict_of LINE_MAX INPUT_MAX taken (length (text_of piece)) (length piece) ≡ verdict)))
 
--- a line of these bytes is given, and these are left
+-- a line of these bytes was returned, and these are left
 pub record IsGiven (taken taken_after : ℕ) (bytes left text : List ℕ) : Type 0 where
   pub piece : List ℕ
   pub first : cut bytes ≡ piece ∷ cut left
@@ -43,7 +50,7 @@ pub record IsGiven (taken taken_after : ℕ) (bytes left text : List ℕ) : Type
   pub taken_is : taken_after ≡ taken + length piece
   pub fits_in : verdict_of LINE_MAX INPUT_MAX taken (length text) (length piece) ≡ fits
 
--- what comes next of known bytes, of which so many were taken before and so many lines given
+-- what comes next of known bytes, after `taken` bytes and `number` lines
 abbrev pub IsNext : ℕ → ℕ → Option (List ℕ) → Result (Option Line) LineError → ℕ → Option (List ℕ) → Type 0
 IsNext taken number None result taken_after left = ⊤
 IsNext taken number (Some bytes) (Ok None) taken_after left = bytes ≡ []

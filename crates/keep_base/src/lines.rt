@@ -1,4 +1,4 @@
-// The lines of a source.
+// Reading a source line by line.
 ghost use Rattle.std.specs.Prelude.{◌≡◌, ◌≤◌, ◌<◌, ◌+◌, ℕ, List, Option, None, Some, OnOk, OnErr, IfOk, IfErr, IfSome, IsErrOf, length, vec_len, take, drop, [], Err};
 ghost use Rattle.std.specs.Io.KnownBytes.{prepend_known};
 ghost use Rattle.keep_spec.specs.Causes.{Rose};
@@ -8,42 +8,45 @@ ghost use Rattle.keep_base.specs.Ends.{IsNewlineFrom, IsJudged, IsFound, SameByt
 use crate::{Bytes, Source};
 use std::alloc::{AllocError, AllocFailed, Global};
 
-/// The most bytes that a line has before its newline. So far a line has no bound of its own: this is more than an input can have.
+/// The most bytes of a line before its newline. So far a line has no bound of its own: this is more than an input can have.
 pub const LINE_MAX: u64 = 1073741825;
 
-/// The most bytes that an input has.
+/// The most bytes of an input.
 pub const INPUT_MAX: u64 = 1073741824;
 
-// How many bytes are asked of the source at once.
+// How many bytes the source is asked for at a time.
 const CHUNK: usize = 16384;
 
-/// A line, without its newline. Lines are counted from 1.
+/// A line of an input.
 #[derive(Drop, Debug)]
 pub struct Line {
+    /// Lines are counted from 1.
     pub number: u64,
+    /// The line without its newline.
     pub text: Bytes,
 }
 
-/// Why there is no further line.
+/// Why a line can't be read. Each later call returns the same error.
 #[derive(Clone, Copy, Debug, PartialEq, Eq)]
 pub enum LineError {
-    /// The source failed, and has counted it.
+    /// The source failed, and counted the fault.
     ReadFault,
-    /// The line of this number has more than LINE_MAX bytes before its newline.
+    /// The line with this number has more than `LINE_MAX` bytes before its newline.
     LineTooLong { number: u64 },
-    /// The line to be given, its newline included, holds the byte behind the last that an input may have.
+    /// The next line, with its newline, reaches past the first `INPUT_MAX` bytes of the input.
     InputTooLong,
+    /// Memory was refused.
     NoMemory,
 }
 
-// Where the first line of what is pending ends: its text, and with its newline.
+// The length of the first line of what is pending: without and with its newline.
 #[derive(Clone, Copy)]
 pub(crate) struct Found {
     pub(crate) text: usize,
     pub(crate) piece: usize,
 }
 
-// What stops a search for the end of a line.
+// Why the end of a line isn't found.
 #[derive(Clone, Copy)]
 pub(crate) enum Stop {
     ReadFault,
@@ -52,12 +55,12 @@ pub(crate) enum Stop {
     NoMemory,
 }
 
-/// The lines of a source. After an error it answers the same error.
+/// Reads a source line by line. A last line without a newline counts.
 #[derive(Drop)]
 pub struct Lines<'a, R: Source> {
     source: &'a mut R,
     alloc: Global,
-    // What was read, of which the first `start` bytes were given already.
+    // What was read ahead; the first `start` bytes are of lines that were returned.
     pending: Vec<u8>,
     start: usize,
     taken: u64,
@@ -81,7 +84,7 @@ fn newline_from(bytes: &[u8], from: usize) -> Option<usize>
     None
 }
 
-// Whether a piece is within the bounds.
+// Tests a piece against the bounds of a line and of the input.
 fn judge(taken: u64, text: usize, piece: usize) -> Result<(), Stop>
     requires taken { taken ≤ INPUT_MAX }
     ensures { IsJudged (verdict_of LINE_MAX INPUT_MAX taken text piece) result }
@@ -95,7 +98,7 @@ fn judge(taken: u64, text: usize, piece: usize) -> Result<(), Stop>
     Ok(())
 }
 
-// Reads on until the first line of what is pending ends.
+// Reads until the first line of what is pending ends.
 fn fill<R: Source>(source: &mut R, pending: &mut Vec<u8>, taken: u64) -> Result<Option<Found>, Stop>
     requires { taken ≤ INPUT_MAX }
     ensures found { IsFound taken result pending.new.items (R.left source.new) }
@@ -135,7 +138,7 @@ fn fill<R: Source>(source: &mut R, pending: &mut Vec<u8>, taken: u64) -> Result<
     }
 }
 
-// Takes the first bytes away.
+// Removes the first bytes.
 fn drop_front(bytes: &mut Vec<u8>, count: usize)
     requires { count ≤ length bytes.old.items }
     ensures { bytes.new.items ≡ drop count bytes.old.items }
@@ -153,7 +156,7 @@ fn first(bytes: &[u8], count: usize) -> &[u8]
     &bytes[..count]
 }
 
-// Where the first line ends of what is pending from `start` on. Reads on only where it isn't there whole.
+// Finds the end of the first line that is pending from `start` on. Reads only if it isn't there whole.
 fn find<R: Source>(
     source: &mut R,
     pending: &mut Vec<u8>,
@@ -181,14 +184,14 @@ fn find<R: Source>(
 }
 
 impl<'a, R: Source> Lines<'a, R> {
-    ghost use Rattle.keep_base.specs.Lines.{lines_left, lines_failed, lines_taken, lines_number, lines_source, lines_name, IsNext};
+    ghost use Rattle.keep_base.specs.Lines.{lines_left, lines_failed, lines_taken, lines_number, lines_source, lines_name, IsNext, IsEnd};
 
-    /// The lines of what the source has left.
+    /// A reader of what the source has left. It reads nothing yet, and takes no memory.
     pub fn new(alloc: Global, source: &'a mut R) -> Lines<'a, R>
         ensures same_reference { lines_name result ≡ source.entry.ghost_name }
         ensures same_source { lines_source result ≡ source.old }
         ensures left { lines_left result ≡ prepend_known [] (R.left source.old) }
-        ensures none_yet { (lines_taken result ≡ 0) × (lines_number result ≡ 0) × (lines_failed result ≡ None) }
+        ensures starts_at_zero { (lines_taken result ≡ 0) × (lines_number result ≡ 0) × (lines_failed result ≡ None) }
     {
         Lines {
             source,
@@ -201,7 +204,7 @@ impl<'a, R: Source> Lines<'a, R> {
         }
     }
 
-    /// Gives the source back. A caller that has a clause on its source ends with this call, since nothing is known of a borrow that ends in a dropped value.
+    /// Returns the source; what was read ahead is lost. A caller that promises something of its source ends with this call, since nothing is known of a borrow in a value that is dropped.
     pub fn into_source(self) -> &'a mut R
         ensures same_reference { result.ghost_name ≡ lines_name self.entry }
         ensures same_source { result.now ≡ lines_source self.entry }
@@ -210,16 +213,18 @@ impl<'a, R: Source> Lines<'a, R> {
         source
     }
 
-    /// The next line, or None at the end of the input.
+    /// Returns the next line, or `None` at the end of the input: then the source has nothing left, nothing is read ahead, and no later call returns a line.
+    /// After an error each call returns the same error.
     pub fn next(&mut self) -> Result<Option<Line>, LineError>
         ensures same_reference { lines_name self.new ≡ lines_name self.old }
         ensures told { (lines_failed self.old) ≡ None →
             IsNext (lines_taken self.old) (lines_number self.old) (lines_left self.old) result (lines_taken self.new) (lines_left self.new) }
+        ensures ended { result ≡ Ok None → IsEnd self.old self.new }
         ensures number { IfOk result (λ o. IfSome o (λ line. (line.number ≡ lines_number self.new) × (lines_number self.new ≡ lines_number self.old + 1))) }
-        ensures goes_on { IfOk result (λ o. IfSome o (λ _. (lines_taken self.old) < (lines_taken self.new))) }
+        ensures advances { IfOk result (λ o. IfSome o (λ _. (lines_taken self.old) < (lines_taken self.new))) }
         ensures fine { OnOk result ((lines_failed self.old ≡ None) × (lines_failed self.new ≡ None)) }
         ensures failed { IfErr result (λ e. (lines_failed self.new) ≡ Some e) }
-        ensures again { IfSome (lines_failed self.old) (λ e. result ≡ Err e) }
+        ensures same_error { IfSome (lines_failed self.old) (λ e. result ≡ Err e) }
         ensures later { R.faults (lines_source self.old) ≤ R.faults (lines_source self.new) }
         ensures cause { result ≡ Err LineError.ReadFault → (lines_failed self.old) ≡ None → Rose (R.faults (lines_source self.old)) (R.faults (lines_source self.new)) }
     {
@@ -236,8 +241,9 @@ impl<'a, R: Source> Lines<'a, R> {
     fn advance(&mut self) -> Result<Option<Line>, LineError>
         ensures same_reference { lines_name self.new ≡ lines_name self.old }
         ensures told { IsNext (lines_taken self.old) (lines_number self.old) (lines_left self.old) result (lines_taken self.new) (lines_left self.new) }
+        ensures ended { result ≡ Ok None → IsEnd self.old self.new }
         ensures number { IfOk result (λ o. IfSome o (λ line. (line.number ≡ lines_number self.new) × (lines_number self.new ≡ lines_number self.old + 1))) }
-        ensures goes_on { IfOk result (λ o. IfSome o (λ _. (lines_taken self.old) < (lines_taken self.new))) }
+        ensures advances { IfOk result (λ o. IfSome o (λ _. (lines_taken self.old) < (lines_taken self.new))) }
         ensures failed { (lines_failed self.new) ≡ (lines_failed self.old) }
         ensures later { R.faults (lines_source self.old) ≤ R.faults (lines_source self.new) }
         ensures cause { result ≡ Err LineError.ReadFault → Rose (R.faults (lines_source self.old)) (R.faults (lines_source self.new)) }

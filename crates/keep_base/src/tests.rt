@@ -1,4 +1,4 @@
-// What no clause says: that calls succeed with ample memory, and that the calls that are to fail do.
+// What no clause says: that calls succeed with ample memory, and where in the lines a fault comes.
 ghost use Rattle.std.specs.Prelude.{None};
 
 use crate::{
@@ -14,13 +14,13 @@ const TEXT: &[u8] = b"first\n\nthird\nlast";
 
 static LINES: [&str; 4] = ["first", "", "third", "last"];
 
-// A source that gives one byte at a time.
+// A source that returns one byte a call.
 #[derive(Drop)]
-struct Drops<S> {
+struct OneByteSource<S> {
     source: S,
 }
 
-impl<S: Source> Source for Drops<S> {
+impl<S: Source> Source for OneByteSource<S> {
     ghost left = { λ _. None };
 
     ghost faults = { λ s. S.faults s.source };
@@ -31,13 +31,13 @@ impl<S: Source> Source for Drops<S> {
     }
 }
 
-// A sink that takes one byte at a time.
+// A sink that takes one byte a call.
 #[derive(Drop)]
-struct Sips<S> {
+struct OneByteSink<S> {
     sink: S,
 }
 
-impl<S: Sink> Sink for Sips<S> {
+impl<S: Sink> Sink for OneByteSink<S> {
     ghost taken = { λ s. S.taken s.sink };
 
     ghost faults = { λ s. S.faults s.sink };
@@ -48,14 +48,17 @@ impl<S: Sink> Sink for Sips<S> {
     }
 }
 
-// The text, where these calls fail.
+// The text, of which these calls fail.
 fn source_of(alloc: Global, failing: &[u64]) -> Result<ByteSource, AllocError> {
     let bytes = Bytes::of(Vec::from_slice(alloc, TEXT)?);
     Ok(ByteSource::new(bytes, Vec::from_slice(alloc, failing)?))
 }
 
-fn drops_of(alloc: Global, failing: &[u64]) -> Result<Drops<ByteSource>, AllocError> {
-    Ok(Drops {
+fn one_byte_source_of(
+    alloc: Global,
+    failing: &[u64],
+) -> Result<OneByteSource<ByteSource>, AllocError> {
+    Ok(OneByteSource {
         source: source_of(alloc, failing)?,
     })
 }
@@ -81,7 +84,7 @@ fn assert_end(rt: &impl Abort, answer: Answer, error: Option<LineError>) {
     }
 }
 
-// The first lines of the text, so many of them, and then the end or an error, which stays.
+// The first `count` lines of the text, and then the end or an error, which stays.
 fn assert_lines<S: Source>(
     rt: &impl Abort,
     alloc: Global,
@@ -101,21 +104,21 @@ fn assert_lines<S: Source>(
 fn lines_are_those_of_the_bytes(rt: HostRuntime) -> Result<(), Fail> {
     let alloc = rt.alloc();
     assert_lines(&rt, alloc, &mut source_of(alloc, &[])?, 4, None);
-    assert_lines(&rt, alloc, &mut drops_of(alloc, &[])?, 4, None);
+    assert_lines(&rt, alloc, &mut one_byte_source_of(alloc, &[])?, 4, None);
     assert_lines(&rt, alloc, &mut ReaderSource::new(TEXT), 4, None);
     Ok(())
 }
 
-// How many lines have come before the first call fails, before the second, and so on: whole pieces, and a byte a call.
-static BEFORE: [usize; 3] = [0, 3, 4];
+// How many lines come before the fault where the first call fails, the second, and so on: of whole pieces, and of a byte a call.
+static LINES_BEFORE_PIECE: [usize; 3] = [0, 3, 4];
 
-static BEFORE_IN_DROPS: [usize; 19] = [0, 0, 0, 0, 0, 0, 1, 2, 2, 2, 2, 2, 2, 3, 3, 3, 3, 3, 4];
+static LINES_BEFORE_BYTE: [usize; 19] = [0, 0, 0, 0, 0, 0, 1, 2, 2, 2, 2, 2, 2, 3, 3, 3, 3, 3, 4];
 
 #[test]
-fn a_fault_comes_behind_the_lines_before_it(rt: HostRuntime) -> Result<(), Fail> {
+fn a_fault_comes_after_the_lines_before_it(rt: HostRuntime) -> Result<(), Fail> {
     let alloc = rt.alloc();
     let fault = Some(LineError::ReadFault);
-    for (at, count) in BEFORE.iter().enumerate() {
+    for (at, count) in LINES_BEFORE_PIECE.iter().enumerate() {
         assert_lines(
             &rt,
             alloc,
@@ -124,11 +127,11 @@ fn a_fault_comes_behind_the_lines_before_it(rt: HostRuntime) -> Result<(), Fail>
             fault,
         );
     }
-    for (at, count) in BEFORE_IN_DROPS.iter().enumerate() {
+    for (at, count) in LINES_BEFORE_BYTE.iter().enumerate() {
         assert_lines(
             &rt,
             alloc,
-            &mut drops_of(alloc, &[at as u64 + 1])?,
+            &mut one_byte_source_of(alloc, &[at as u64 + 1])?,
             *count,
             fault,
         );
@@ -137,9 +140,9 @@ fn a_fault_comes_behind_the_lines_before_it(rt: HostRuntime) -> Result<(), Fail>
 }
 
 #[test]
-fn a_source_is_given_back_behind_the_lines(rt: HostRuntime) -> Result<(), Fail> {
+fn a_source_is_returned_after_the_lines(rt: HostRuntime) -> Result<(), Fail> {
     let alloc = rt.alloc();
-    let mut source = drops_of(alloc, &[])?;
+    let mut source = one_byte_source_of(alloc, &[])?;
     let mut lines = Lines::new(alloc, &mut source);
     assert_line(&rt, lines.next(), 1, "first");
     let source = lines.into_source();
@@ -149,7 +152,7 @@ fn a_source_is_given_back_behind_the_lines(rt: HostRuntime) -> Result<(), Fail> 
     Ok(())
 }
 
-// What a sink of single bytes has taken, where these calls fail.
+// What a sink of one byte a call has taken, of which these calls fail.
 fn assert_taken(
     rt: &impl Abort,
     alloc: Global,
@@ -158,7 +161,7 @@ fn assert_taken(
     answer: Result<(), WriteFault>,
 ) -> Result<(), AllocError> {
     let failing = Vec::from_slice(alloc, failing)?;
-    let mut sink = Sips {
+    let mut sink = OneByteSink {
         sink: ByteSink::new(alloc, failing),
     };
     assert_eq!(rt; write_all(&mut sink, TEXT), answer);
@@ -167,7 +170,7 @@ fn assert_taken(
 }
 
 #[test]
-fn a_sink_has_all_or_a_first_part(rt: HostRuntime) -> Result<(), Fail> {
+fn a_sink_has_all_or_a_prefix(rt: HostRuntime) -> Result<(), Fail> {
     let alloc = rt.alloc();
     for taken in 0..TEXT.len() {
         let call = taken as u64 + 1;
