@@ -1,3 +1,3 @@
-pub mod Reading
+pub mod Parsed
 pub mod Shown
 pub mod Texts

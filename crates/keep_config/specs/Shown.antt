@@ -1,4 +1,4 @@
--- What contracts see of a configuration.
+-- A configuration as contracts see it.
 use Rattle.keep_spec.specs.Config.{Configuration}
 use Rattle.keep_config.specs.declared.config.Config.TheInside.{Inside}
 

@@ -1,4 +1,4 @@
--- The order of byte texts behind references.
+-- The order of lent byte strings.
 use Rattle.std.specs.Prelude.{ℕ, List}
 use Rattle.std.specs.Borrow.{Bor}
 use Rattle.std.specs.declared.cmp.Ordering.{Ordering}

@@ -1,4 +1,4 @@
-// Whether names are distinct.
+// Tests whether names are distinct.
 ghost use Rattle.std.specs.Prelude.{◌≡◌, IfOk, List, ℕ, map};
 ghost use Rattle.std.specs.BTreeSet.{IsFromIterResult};
 ghost use Rattle.keep_spec.specs.Config.{all_distinct};
@@ -8,7 +8,7 @@ use keep_spec::{Bytes, Mount, NoMemory, Server};
 use std::alloc::{AllocError, Global};
 use std::collections::BTreeSet;
 
-/// What is told from its like by a text.
+/// A value that has a name of its own.
 pub(crate) trait Named {
     ghost name: { Self → List ℕ };
 
@@ -58,7 +58,7 @@ fn set_of<'a>(alloc: Global, names: &[&'a [u8]]) -> Result<BTreeSet<&'a [u8]>, A
     names.iter().copied().collect(alloc)
 }
 
-/// Whether no two of the items have one name.
+/// Whether no two of the items have the same name.
 pub(crate) fn all_distinct<N: Named>(alloc: Global, items: &[N]) -> Result<bool, NoMemory>
     ensures { IfOk result (λ b. b ≡ all_distinct (map N.name items.now)) }
 {

@@ -1,4 +1,4 @@
-// What the members of a configuration's lists say.
+// Parses the members of a configuration's lists.
 ghost use Rattle.std.specs.Prelude.{◌≡◌, IfOk};
 ghost use Rattle.serde_json.specs.View.{view};
 ghost use Rattle.keep_spec.specs.Config.{uuid_at, index_at, addresses_of, device_of, server_of, mount_of};
@@ -10,9 +10,9 @@ use serde_json::Value;
 use std::alloc::Global;
 
 impl Member for Device {
-    ghost said_by = { device_of };
+    ghost parsed = { device_of };
 
-    fn of_value(_alloc: Global, value: &Value) -> Result<Option<Device>, NoMemory> {
+    fn parse(_alloc: Global, value: &Value) -> Result<Option<Device>, NoMemory> {
         let Some(capacity) = json::number_at(value, "capacity") else {
             return Ok(None);
         };
@@ -27,9 +27,9 @@ impl Member for Device {
 }
 
 impl Member for Server {
-    ghost said_by = { server_of };
+    ghost parsed = { server_of };
 
-    fn of_value(alloc: Global, value: &Value) -> Result<Option<Server>, NoMemory> {
+    fn parse(alloc: Global, value: &Value) -> Result<Option<Server>, NoMemory> {
         let Some(uuid) = uuid_at(value) else {
             return Ok(None);
         };
@@ -41,9 +41,9 @@ impl Member for Server {
 }
 
 impl Member for Mount {
-    ghost said_by = { mount_of };
+    ghost parsed = { mount_of };
 
-    fn of_value(_alloc: Global, value: &Value) -> Result<Option<Mount>, NoMemory> {
+    fn parse(_alloc: Global, value: &Value) -> Result<Option<Mount>, NoMemory> {
         let Some(uuid) = uuid_at(value) else {
             return Ok(None);
         };

@@ -1,10 +1,12 @@
-// Why a text is refused.
+// Why a text isn't a configuration.
 use keep_spec::{Field, NoMemory};
 
-/// A text that is no configuration: the first field of the table that isn't as said. Or memory was refused.
+/// Why a configuration wasn't read.
 #[derive(Clone, Copy, Debug, PartialEq, Eq)]
 pub enum ConfigError {
+    /// The text isn't a configuration: this is the first field that isn't as required.
     BadConfig { field: Field },
+    /// Memory was refused.
     NoMemory,
 }
 

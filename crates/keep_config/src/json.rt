@@ -1,4 +1,4 @@
-// Small readers of JSON values, each of which gives what its definition says of the value.
+// Readers of JSON values. Numbers, texts and names are as `serde_json` reads them.
 ghost use Rattle.std.specs.Prelude.{◌≡◌, IfOk, map, Option, option_map, bytes_eq};
 ghost use Rattle.std.specs.List.{list_any};
 ghost use Rattle.serde_json.specs.Data.{Data};
@@ -11,7 +11,7 @@ use serde_json::{Map, Value};
 use std::alloc::Global;
 use std::str;
 
-/// The value of a text, as `serde_json` reads it. None where the text isn't UTF-8 or isn't JSON.
+/// Parses a text as `serde_json` does: of a name that stands twice in an object the last counts. `None` if the text isn't UTF-8 or isn't JSON.
 pub fn value_of(alloc: Global, text: &[u8]) -> Result<Option<Value>, NoMemory>
     ensures { IfOk result (λ o. option_map view o ≡ value_of text.now) }
 {
@@ -25,21 +25,21 @@ pub fn value_of(alloc: Global, text: &[u8]) -> Result<Option<Value>, NoMemory>
     }
 }
 
-/// The text at a name of an object.
+/// The text under a name of an object. `None` if the value isn't an object, or has no text there.
 pub fn text_at<'a>(value: &'a Value, name: &str) -> Option<&'a str>
     ensures { option_map (λ s. s.now) result ≡ text_at name.now (view value.now) }
 {
     value.get(name).and_then(Value::as_str)
 }
 
-/// The whole number at a name of an object: digits without point and exponent, below 2^64.
+/// The whole number under a name of an object: digits without point and exponent, below 2^64. `None` if there is none.
 pub fn number_at(value: &Value, name: &str) -> Option<u64>
     ensures { result ≡ number_at name.now (view value.now) }
 {
     value.get(name).and_then(Value::as_u64)
 }
 
-/// The truth value at a name of an object, or the default where the name isn't there.
+/// The truth value under a name of an object; the default if the name is absent; `None` if the value there is of another kind.
 pub fn truth_or(value: &Value, name: &str, default: bool) -> Option<bool>
     ensures { result ≡ truth_or default name.now (view value.now) }
 {
@@ -49,7 +49,7 @@ pub fn truth_or(value: &Value, name: &str, default: bool) -> Option<bool>
     }
 }
 
-/// Whether the value is an object of this many members, each name counted once.
+/// Whether the value is an object of `count` members, each name counted once.
 #[tactic(auto, using(crate::proofs::Members::members_length_of_view))]
 pub fn has_members(value: &Value, count: usize) -> bool
     ensures { result ≡ has_members count (view value.now) }
@@ -60,7 +60,7 @@ pub fn has_members(value: &Value, count: usize) -> bool
     }
 }
 
-/// Whether an object has members of these names alone. A value that is no object has none.
+/// Whether every member of an object has one of these names. A value of another kind has no members.
 pub fn has_only(value: &Value, names: &[&str]) -> bool
     ensures { result ≡ has_only (map (λ n. n.now) names.now) (view value.now) }
 {
@@ -92,7 +92,7 @@ fn is_among(text: &[u8], names: &[&str]) -> bool
     false
 }
 
-/// Whether the objects of the list at a name have members of these names alone.
+/// Whether every member of every object in the list under a name has one of these names.
 pub fn each_has_only(value: &Value, name: &str, names: &[&str]) -> bool
     ensures { result ≡ each_has_only (map (λ n. n.now) names.now) name.now (view value.now) }
 {
@@ -113,34 +113,35 @@ fn items_have_only(items: &[Value], names: &[&str]) -> bool
     true
 }
 
-/// What can be read of a member of a list.
+/// A value that can be parsed from a member of a list.
 pub trait Member: Sized + Drop {
-    /// What a value says, None where it isn't in the form.
-    ghost said_by: { Data → Option Self };
+    /// What a JSON value is parsed as; none if it isn't of the form.
+    ghost parsed: { Data → Option Self };
 
-    fn of_value(alloc: Global, value: &Value) -> Result<Option<Self>, NoMemory>
-        ensures { IfOk result (λ o. o ≡ said_by (view value.now)) };
+    /// Parses a value. `None` if it isn't of the form.
+    fn parse(alloc: Global, value: &Value) -> Result<Option<Self>, NoMemory>
+        ensures { IfOk result (λ o. o ≡ parsed (view value.now)) };
 }
 
-/// A text.
+/// A member that is a text.
 impl Member for Bytes {
-    ghost said_by = { as_str };
+    ghost parsed = { as_str };
 
-    fn of_value(alloc: Global, value: &Value) -> Result<Option<Bytes>, NoMemory> {
+    fn parse(alloc: Global, value: &Value) -> Result<Option<Bytes>, NoMemory> {
         match value.as_str() {
-            Some(text) => Ok(Some(Bytes::of(Vec::from_slice(alloc, text.as_bytes())?))),
+            Some(text) => Ok(Some(Bytes::copy_of(alloc, text.as_bytes())?)),
             None => Ok(None),
         }
     }
 }
 
-/// What each member of a list says, None where one is out of form.
+/// Parses each member of a list, in order. `None` if one isn't of the form.
 pub fn each<M: Member>(alloc: Global, items: &[Value]) -> Result<Option<Items<M>>, NoMemory>
-    ensures { IfOk result (λ o. o ≡ each M.said_by (items_view items.now)) }
+    ensures { IfOk result (λ o. o ≡ each M.parsed (items_view items.now)) }
 {
     let mut members = Vec::new(alloc);
     for item in items {
-        let Some(member) = M::of_value(alloc, item)? else {
+        let Some(member) = M::parse(alloc, item)? else {
             return Ok(None);
         };
         if members.push(member).is_err() {
@@ -150,13 +151,13 @@ pub fn each<M: Member>(alloc: Global, items: &[Value]) -> Result<Option<Items<M>
     Ok(Some(Items::of(members)))
 }
 
-/// What each member of the list at a name says. None where no list is there, or one of them is out of form.
+/// Parses each member of the list under a name, in order. `None` if there is no list, or one of its members isn't of the form.
 pub fn list_at<M: Member>(
     alloc: Global,
     value: &Value,
     name: &str,
 ) -> Result<Option<Items<M>>, NoMemory>
-    ensures { IfOk result (λ o. o ≡ list_at M.said_by name.now (view value.now)) }
+    ensures { IfOk result (λ o. o ≡ list_at M.parsed name.now (view value.now)) }
 {
     match value.get(name).and_then(Value::as_array) {
         Some(items) => each(alloc, items),

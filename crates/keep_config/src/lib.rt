@@ -1,13 +1,13 @@
-//! The configuration: its reading, and what follows from its fields. Beside it small readers of JSON that the reading of script lines uses too.
+//! The configuration: parsing, and what follows from its fields. Its readers of JSON values are public, for other texts of this project.
 #![tactic(auto)]
 
 mod config;
 mod distinct;
 mod elements;
 mod error;
+mod fields;
 pub mod json;
 mod limits;
-mod reading;
 #[cfg(test)]
 mod tests;
 

@@ -1,4 +1,4 @@
-// What the fields of a configuration must be.
+// Tests the fields of a configuration against their bounds.
 ghost use Rattle.std.specs.Prelude.{◌≡◌, ◌==◌, IfOk, length, bytes_eq};
 ghost use Rattle.std.specs.List.{list_all, list_any};
 ghost use Rattle.keep_spec.specs.Uuid.{is_uuid_part};
@@ -108,7 +108,7 @@ fn is_server(server: &Server) -> bool
     server.uuid.kind() == b"bi6l4".as_slice() && server.addresses.len() <= 8
 }
 
-/// Whether these are mounts where there are so many devices and servers.
+/// Whether these are good mounts, given the numbers of devices and servers.
 pub(crate) fn are_mounts(
     alloc: Global,
     devices: usize,
@@ -138,7 +138,7 @@ fn is_mount(devices: usize, servers: usize, mount: &Mount) -> bool
         && (mount.server as usize) < servers
 }
 
-/// Whether each of so many devices has a mount.
+/// Whether each of n devices has a mount.
 fn all_mounted(devices: usize, mounts: &[Mount]) -> bool
     ensures { result ≡ all_mounted devices mounts.now }
 {

@@ -5,4 +5,4 @@ use Rattle.keep_config.proofs.json.each.Given as goal
 
 -- the members so far, and then those of the items that are left
 abbrev pub invariant-loop-item : goal.invariant-loop-item
-invariant-loop-item g l = option_map (λ rest. l.members.items ++ rest) (each g.M.Member.said_by (items_view (drop l.item-index l.items))) ≡ each g.M.Member.said_by (items_view l.items)
+invariant-loop-item g l = option_map (λ rest. l.members.items ++ rest) (each g.M.Member.parsed (items_view (drop l.item-index l.items))) ≡ each g.M.Member.parsed (items_view l.items)

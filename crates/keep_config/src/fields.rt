@@ -1,10 +1,10 @@
-// Reading a configuration: field by field, so that the first one that isn't as said is named.
-ghost use Rattle.std.specs.Prelude.{◌≡◌, ◌≤◌, IfOk, length, codes};
+// Parses the fields of a configuration in order, so that the first that isn't as required is named.
+ghost use Rattle.std.specs.Prelude.{◌≤◌, length, codes, ◌≡◌};
 ghost use Rattle.serde_json.specs.Find.{as_str};
 ghost use Rattle.serde_json.specs.View.{view};
 ghost use Rattle.keep_spec.specs.Json.{text_at, number_at, list_at};
-ghost use Rattle.keep_spec.specs.Config.{is_within, is_cluster, is_secret, is_token, are_tokens, are_devices, are_servers, are_mounts, device_of, server_of, mount_of, number_or, all_known, field, field_name, config_of_object, config_of};
-ghost use Rattle.keep_config.specs.Reading.{IsReading};
+ghost use Rattle.keep_spec.specs.Config.{is_within, is_cluster, is_secret, is_token, are_tokens, are_devices, are_servers, are_mounts, device_of, server_of, mount_of, number_or, all_known, field, field_name, config_of_object};
+ghost use Rattle.keep_config.specs.Parsed.{IsParsed};
 
 use crate::config::Config;
 use crate::error::ConfigError;
@@ -19,41 +19,38 @@ fn bad(field: Field) -> ConfigError
     ConfigError::BadConfig { field }
 }
 
-fn copied(alloc: Global, text: &str) -> Result<Bytes, ConfigError>
-    ensures { IsReading (Ok text.now) result }
-{
-    match Vec::from_slice(alloc, text.as_bytes()) {
-        Ok(bytes) => Ok(Bytes::of(bytes)),
-        Err(_) => Err(ConfigError::NoMemory),
-    }
-}
-
 #[tactic(auto, unfolding(keep_spec::specs::Config::field))]
 fn cluster_of(alloc: Global, value: &Value) -> Result<Bytes, ConfigError>
-    ensures { IsReading (field Field.Cluster is_cluster (text_at (codes "cluster") (view value.now))) result }
+    ensures { IsParsed (field Field.Cluster is_cluster (text_at (codes "cluster") (view value.now))) result }
 {
     match json::text_at(value, Field::Cluster.name()) {
-        Some(text) if limits::is_cluster(text.as_bytes()) => copied(alloc, text),
+        Some(text) if limits::is_cluster(text.as_bytes()) => {
+            Ok(Bytes::copy_of(alloc, text.as_bytes())?)
+        }
         _ => Err(bad(Field::Cluster)),
     }
 }
 
 #[tactic(auto, unfolding(keep_spec::specs::Config::field))]
 fn secret_of(alloc: Global, value: &Value) -> Result<Bytes, ConfigError>
-    ensures { IsReading (field Field.Secret is_secret (text_at (codes "secret") (view value.now))) result }
+    ensures { IsParsed (field Field.Secret is_secret (text_at (codes "secret") (view value.now))) result }
 {
     match json::text_at(value, Field::Secret.name()) {
-        Some(text) if limits::is_secret(text.as_bytes()) => copied(alloc, text),
+        Some(text) if limits::is_secret(text.as_bytes()) => {
+            Ok(Bytes::copy_of(alloc, text.as_bytes())?)
+        }
         _ => Err(bad(Field::Secret)),
     }
 }
 
 #[tactic(auto, unfolding(keep_spec::specs::Config::field))]
 fn system_token_of(alloc: Global, value: &Value) -> Result<Bytes, ConfigError>
-    ensures { IsReading (field Field.SystemToken is_token (text_at (codes "system_token") (view value.now))) result }
+    ensures { IsParsed (field Field.SystemToken is_token (text_at (codes "system_token") (view value.now))) result }
 {
     match json::text_at(value, Field::SystemToken.name()) {
-        Some(text) if limits::is_token(text.as_bytes()) => copied(alloc, text),
+        Some(text) if limits::is_token(text.as_bytes()) => {
+            Ok(Bytes::copy_of(alloc, text.as_bytes())?)
+        }
         _ => Err(bad(Field::SystemToken)),
     }
 }
@@ -64,7 +61,7 @@ fn tokens_of(
     value: &Value,
     system_token: &Bytes,
 ) -> Result<Items<Bytes>, ConfigError>
-    ensures { IsReading (field Field.Tokens (are_tokens system_token.now) (list_at as_str (codes "tokens") (view value.now))) result }
+    ensures { IsParsed (field Field.Tokens (are_tokens system_token.now) (list_at as_str (codes "tokens") (view value.now))) result }
 {
     let Some(tokens) = json::list_at(alloc, value, Field::Tokens.name())? else {
         return Err(bad(Field::Tokens));
@@ -78,7 +75,7 @@ fn tokens_of(
 
 #[tactic(auto, unfolding(keep_spec::specs::Config::field))]
 fn devices_of(alloc: Global, value: &Value) -> Result<Items<Device>, ConfigError>
-    ensures { IsReading (field Field.Devices are_devices (list_at device_of (codes "devices") (view value.now))) result }
+    ensures { IsParsed (field Field.Devices are_devices (list_at device_of (codes "devices") (view value.now))) result }
 {
     let Some(devices) = json::list_at(alloc, value, Field::Devices.name())? else {
         return Err(bad(Field::Devices));
@@ -92,7 +89,7 @@ fn devices_of(alloc: Global, value: &Value) -> Result<Items<Device>, ConfigError
 
 #[tactic(auto, unfolding(keep_spec::specs::Config::field))]
 fn servers_of(alloc: Global, value: &Value) -> Result<Items<Server>, ConfigError>
-    ensures { IsReading (field Field.Servers are_servers (list_at server_of (codes "servers") (view value.now))) result }
+    ensures { IsParsed (field Field.Servers are_servers (list_at server_of (codes "servers") (view value.now))) result }
 {
     let Some(servers) = json::list_at(alloc, value, Field::Servers.name())? else {
         return Err(bad(Field::Servers));
@@ -111,7 +108,7 @@ fn mounts_of(
     devices: &Items<Device>,
     servers: &Items<Server>,
 ) -> Result<Items<Mount>, ConfigError>
-    ensures { IsReading (field Field.Mounts (are_mounts (length devices.now) (length servers.now)) (list_at mount_of (codes "mounts") (view value.now))) result }
+    ensures { IsParsed (field Field.Mounts (are_mounts (length devices.now) (length servers.now)) (list_at mount_of (codes "mounts") (view value.now))) result }
 {
     let Some(mounts) = json::list_at(alloc, value, Field::Mounts.name())? else {
         return Err(bad(Field::Mounts));
@@ -123,10 +120,10 @@ fn mounts_of(
     }
 }
 
-// The number at a field's name, where it is within the bounds.
+// The number of a field, if it is within the bounds.
 #[tactic(auto, unfolding(keep_spec::specs::Config::field))]
 fn number_of(value: &Value, name: Field, low: u32, high: u32) -> Result<u32, ConfigError>
-    ensures { IsReading (field name (is_within low high) (number_at (field_name name) (view value.now))) result }
+    ensures { IsParsed (field name (is_within low high) (number_at (field_name name) (view value.now))) result }
 {
     match json::number_at(value, name.name()) {
         Some(number) if number >= u64::from(low) && number <= u64::from(high) => Ok(number as u32),
@@ -134,7 +131,7 @@ fn number_of(value: &Value, name: Field, low: u32, high: u32) -> Result<u32, Con
     }
 }
 
-// The same, or the default where the name isn't there.
+// The same; the default if the field is absent.
 #[tactic(auto, unfolding(keep_spec::specs::Config::field))]
 fn number_or(
     value: &Value,
@@ -145,7 +142,7 @@ fn number_or(
 ) -> Result<u32, ConfigError>
     requires low { low ≤ default }
     requires high { default ≤ high }
-    ensures { IsReading (field name (is_within low high) (number_or default (field_name name) (view value.now))) result }
+    ensures { IsParsed (field name (is_within low high) (number_or default (field_name name) (view value.now))) result }
 {
     match value.get(name.name()) {
         Some(_) => number_of(value, name, low, high),
@@ -178,8 +175,8 @@ fn all_known(value: &Value) -> bool
         && json::each_has_only(value, "mounts", &["uuid", "server", "device"])
 }
 
-fn read_object(alloc: Global, value: &Value) -> Result<Config, ConfigError>
-    ensures { IsReading (config_of_object (view value.now)) result }
+pub(crate) fn parse_fields(alloc: Global, value: &Value) -> Result<Config, ConfigError>
+    ensures { IsParsed (config_of_object (view value.now)) result }
 {
     let cluster = cluster_of(alloc, value)?;
     let ttl = number_of(value, Field::Ttl, 1, 100_000_000)?;
@@ -212,18 +209,4 @@ fn read_object(alloc: Global, value: &Value) -> Result<Config, ConfigError>
         index_digits,
         scan_limit,
     })
-}
-
-impl Config {
-    /// Reads a configuration. The text is one JSON object; of a name that stands twice in it the last counts.
-    /// BadConfig has the first field, in the order of the struct's fields, that is missing without a default or isn't as it must be.
-    #[tactic(auto, unfolding(keep_spec::specs::Config::field, keep_spec::specs::Config::config_of))]
-    pub fn read(alloc: Global, text: &[u8]) -> Result<Config, ConfigError>
-        ensures { IsReading (config_of text.now) result }
-    {
-        match json::value_of(alloc, text)? {
-            Some(value) if value.is_object() => read_object(alloc, &value),
-            _ => Err(bad(Field::Line)),
-        }
-    }
 }

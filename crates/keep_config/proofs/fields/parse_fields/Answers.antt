@@ -1,5 +1,5 @@
 use Rattle.keep_config.proofs.Passing.{field-passes}
-use Rattle.keep_config.proofs.reading.read_object.Goals as goal
+use Rattle.keep_config.proofs.fields.parse_fields.Goals as goal
 
 pub invariant_of-result : goal.invariant_of-result
 invariant_of-result c = record {
