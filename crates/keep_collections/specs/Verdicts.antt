@@ -1,5 +1,5 @@
 -- When a request is good, in the words of its user, and which queries may be asked.
-use Rattle.std.specs.Prelude.{◌≡◌, ◌<◌, ◌≤◌, ◌*◌, ◌^◌, ◌⊎◌, ⊤, ℕ, Bool, true, false, List, Option, None, Some, IsTrue, IsSome, IsOk}
+use Rattle.std.specs.Prelude.{◌≡◌, ◌<◌, ◌≤◌, ◌⊎◌, ⊤, ℕ, Bool, true, false, List, Option, None, Some, IsTrue, IsSome, IsOk}
 use Rattle.std.specs.List.{AllByRecursion}
 use Rattle.keep_spec.specs.Config.{Configuration, token_of}
 use Rattle.keep_spec.specs.Locator.{is_empty_block}
@@ -7,6 +7,7 @@ use Rattle.keep_spec.specs.Portable.{portable_text}
 use Rattle.keep_spec.specs.Refusals.{bad}
 use Rattle.keep_spec.specs.Sign.{verdict}
 use Rattle.keep_spec.specs.Stripped.{portable_hash}
+use Rattle.keep_spec.specs.Times.{IsReading}
 use Rattle.keep_spec.specs.declared.portable.Portable.{Portable}
 use Rattle.keep_spec.specs.declared.token.TokenId.{TokenId}
 use Rattle.keep_event.specs.Table.{State, collection_of, is_owner, is_in_trash, versions_held}
@@ -32,7 +33,7 @@ IsAsked queries.BeginRound = ⊤
 IsAsked (queries.Save request) = ⊤
 IsAsked (queries.Update collection preserve request) = ⊤
 IsAsked (queries.Read token collection version) = ⊤
-IsAsked (queries.SetTrash token collection trash_at delete_at) = trash_at < 4 * 10 ^ 18
+IsAsked (queries.SetTrash token collection trash_at delete_at) = IsReading trash_at
 IsAsked (queries.Restore token collection) = ⊤
 IsAsked queries.Sweep = ⊤
 IsAsked (queries.Scan round after limit) = 0 < limit

@@ -1,6 +1,7 @@
 // The table's queries as they are asked: by a token's text, a save or an update with all that is tested of its request.
-ghost use Rattle.std.specs.Prelude.{◌≡◌, ◌↔◌, ◌<◌, ◌*◌, ◌^◌, IsTrue, IsOk, IfOk};
+ghost use Rattle.std.specs.Prelude.{◌≡◌, ◌↔◌, ◌<◌, IsTrue, IsOk, IfOk};
 ghost use Rattle.std.specs.Bool.{OnTrue};
+ghost use Rattle.keep_spec.specs.Times.{IsReading};
 ghost use Rattle.keep_event.specs.Table.{has_room};
 ghost use Rattle.keep_event.specs.Table as machine;
 ghost use Rattle.keep_event.specs.Requests as requests;
@@ -68,7 +69,7 @@ pub fn update(
 ) -> Result<TableAnswer, NoMemory>
     requires room { IsTrue (has_room table.old.state) }
     requires rules { table.old.rules ≡ requests.rules_of config.now }
-    requires reading { reading < 4 * 10 ^ 18 }
+    requires reading { IsReading reading }
     ensures line { IsLine (requests.update_line config.now reading collection preserve request.now table.old.state) table.old table.new result }
 
     // It is updated exactly where the request is good for the collection, want of memory aside.
@@ -95,7 +96,7 @@ fn read(
     version: Option<u64>,
 ) -> Result<TableAnswer, NoMemory>
     requires rules { table.old.rules ≡ requests.rules_of config.now }
-    requires reading { reading < 4 * 10 ^ 18 }
+    requires reading { IsReading reading }
     ensures { IsLine (requests.known config.now token.now table.old.state (λ t. machine.read (requests.rules_of config.now) reading t collection version table.old.state)) table.old table.new result }
 {
     match config.token(token) {
@@ -114,8 +115,8 @@ fn set_trash(
     delete_at: u64,
 ) -> Result<TableAnswer, NoMemory>
     requires rules { table.old.rules ≡ requests.rules_of config.now }
-    requires reading { reading < 4 * 10 ^ 18 }
-    requires trash_at { trash_at < 4 * 10 ^ 18 }
+    requires reading { IsReading reading }
+    requires trash_at { IsReading trash_at }
     ensures { IsLine (requests.known config.now token.now table.old.state (λ t. machine.set_trash (requests.rules_of config.now) reading t collection trash_at delete_at table.old.state)) table.old table.new result }
 {
     match config.token(token) {
@@ -147,7 +148,7 @@ fn answer_about_collection(
     query: &TableQuery,
 ) -> Result<TableAnswer, NoMemory>
     requires rules { table.old.rules ≡ requests.rules_of config.now }
-    requires reading { reading < 4 * 10 ^ 18 }
+    requires reading { IsReading reading }
     requires asked { IsAsked query.now }
     requires about { IsAboutCollection query.now }
     ensures { IsLine (requests.table_line config.now reading query.now table.old.state) table.old table.new result }
@@ -198,7 +199,7 @@ pub fn answer(
 ) -> Result<TableAnswer, NoMemory>
     requires room { IsTrue (has_room table.old.state) }
     requires rules { table.old.rules ≡ requests.rules_of config.now }
-    requires reading { reading < 4 * 10 ^ 18 }
+    requires reading { IsReading reading }
     requires asked { IsAsked query.now }
     ensures line { IsLine (requests.table_line config.now reading query.now table.old.state) table.old table.new result }
     ensures round_needs_no_memory { OnTrue (begins_round query.now) (IsOk result) }

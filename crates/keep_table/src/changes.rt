@@ -1,30 +1,14 @@
 // What the calls of the table do to its lists.
-ghost use Rattle.std.specs.Prelude.{◌≡◌, ◌==◌, ◌<◌, ◌≤◌, ◌-◌, ◌*◌, ◌/◌, ◌^◌, ◌++◌, ◌∷◌, [], vec_len, length, take, nat_lt, nat_le, Option, option_map, IfOk, map, Some, None, count_by, filter, not, ◌&&◌};
+ghost use Rattle.std.specs.Prelude.{◌≡◌, ◌==◌, ◌<◌, ◌≤◌, ◌*◌, ◌/◌, ◌^◌, ◌++◌, ◌∷◌, [], vec_len, length, take, nat_lt, nat_le, Option, option_map, IfOk, map, Some, None, count_by, filter, not, ◌&&◌};
 ghost use Rattle.std.specs.List.{find};
 ghost use Rattle.std.specs.Option.{option_map_or};
 ghost use Rattle.std.specs.Vec.{vec_capacity};
 ghost use Rattle.keep_event.specs.Table as machine;
-ghost use Rattle.keep_spec.specs.Times.{guard, grace};
+ghost use Rattle.keep_spec.specs.Times.{IsReading};
 
 use keep_event::{Collection, NewRecord, Record, ScanRow, Standing, TableAnswer, TableRules};
-use keep_spec::{Items, NoMemory, TokenId, grace_nanos, guard_nanos};
+use keep_spec::{Items, NANOS_PER_SECOND, NoMemory, TokenId, grace_nanos};
 use std::alloc::Global;
-
-// Twice the skew, in nanoseconds.
-pub(crate) fn guard(rules: &TableRules) -> u64
-    ensures guard { result ≡ guard rules.now.skew }
-    ensures bound { result ≤ 2 * (2 ^ 32 - 1) * 10 ^ 9 }
-{
-    guard_nanos(rules.skew)
-}
-
-// The lifetime of a signature, and twice the skew, in nanoseconds.
-pub(crate) fn grace(rules: &TableRules) -> u64
-    ensures grace { result ≡ grace rules.now.ttl rules.now.skew }
-    ensures bound { result ≤ 3 * (2 ^ 32 - 1) * 10 ^ 9 }
-{
-    grace_nanos(rules.ttl, rules.skew)
-}
 
 pub(crate) fn push_in_room<X: Drop>(items: &mut Vec<X>, item: X)
     requires { vec_len items.old < vec_capacity items.old }
@@ -284,14 +268,14 @@ pub(crate) fn drop_swept(records: &mut Vec<Record>, collections: &[Collection], 
 
 /// Returns the standing of a record that is superseded at a reading.
 pub(crate) fn kept_until(rules: &TableRules, reading: u64, preserve: bool) -> Standing
-    requires { reading < 4 * 10 ^ 18 }
+    requires { IsReading reading }
     ensures { result ≡ machine.kept_until rules.now reading preserve }
 {
     if preserve {
         Standing::Preserved
     } else {
         Standing::Kept {
-            until: reading + grace(rules),
+            until: reading + grace_nanos(rules.ttl, rules.skew),
         }
     }
 }
@@ -333,16 +317,16 @@ pub(crate) fn version_of(records: &[Record], number: u64, version: Option<u64>) 
 
 // A reading in whole seconds.
 fn seconds(reading: u64) -> u64
-    requires { reading < 4 * 10 ^ 18 }
-    ensures seconds { result ≡ reading / 10 ^ 9 }
+    requires { IsReading reading }
+    ensures seconds { result ≡ reading / NANOS_PER_SECOND }
     ensures bound { result ≤ 4 * 10 ^ 9 }
 {
-    reading / 1_000_000_000
+    reading / NANOS_PER_SECOND
 }
 
 // The expiry, in seconds, of what is signed at a reading.
 fn signed_until(rules: &TableRules, reading: u64) -> u64
-    requires { reading < 4 * 10 ^ 18 }
+    requires { IsReading reading }
     ensures until { result ≡ machine.signed_until rules.now reading }
     ensures bound { result < 2 ^ 32 }
 {
@@ -351,7 +335,7 @@ fn signed_until(rules: &TableRules, reading: u64) -> u64
 }
 
 fn expiry_of(rules: &TableRules, reading: u64, collection: &Collection) -> Option<u32>
-    requires { reading < 4 * 10 ^ 18 }
+    requires { IsReading reading }
     ensures { result ≡ machine.expiry_of rules.now reading collection.now }
 {
     if is_in_trash(reading, collection) {
@@ -359,7 +343,7 @@ fn expiry_of(rules: &TableRules, reading: u64, collection: &Collection) -> Optio
     }
     let signed = signed_until(rules, reading);
     match collection.trash_at {
-        Some(at) => Some(signed.min(at / 1_000_000_000) as u32),
+        Some(at) => Some(signed.min(at / NANOS_PER_SECOND) as u32),
         None => Some(signed as u32),
     }
 }
@@ -372,7 +356,7 @@ pub(crate) fn row_answer(
     row: &Record,
     collection: &Collection,
 ) -> Result<TableAnswer, NoMemory>
-    requires { reading < 4 * 10 ^ 18 }
+    requires { IsReading reading }
     ensures { IfOk result (λ a. a ≡ machine.row_answer rules.now reading row.now collection.now) }
 {
     let text = row.made.text.duplicate(alloc)?;

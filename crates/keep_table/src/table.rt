@@ -1,7 +1,7 @@
 // The table and its calls.
 use crate::changes;
 use keep_event::{Collection, NewRecord, Record, Standing, TableAnswer, TableRules};
-use keep_spec::{NoMemory, TokenId};
+use keep_spec::{NoMemory, TokenId, grace_nanos, guard_nanos};
 use std::alloc::Global;
 use std::marker::Model;
 
@@ -30,9 +30,10 @@ impl Model for Table {
 }
 
 impl Table {
-    ghost use Rattle.std.specs.Prelude.{◌≡◌, ◌≤◌, ◌<◌, ◌*◌, ◌^◌, IsTrue, IfOk};
+    ghost use Rattle.std.specs.Prelude.{◌≡◌, ◌≤◌, ◌<◌, IsTrue, IfOk};
     ghost use Rattle.keep_event.specs.Table as machine;
     ghost use Rattle.std.specs.Bool.{OnTrue};
+    ghost use Rattle.keep_spec.specs.Times.{IsReading};
     ghost use Rattle.keep_table.specs.Contents.{IsReply, IsLine, is_updated, AreRowsAbove};
 
     /// Makes an empty table. Takes no memory.
@@ -123,16 +124,16 @@ impl Table {
         trash_at: u64,
         delete_at: u64,
     ) -> Result<TableAnswer, NoMemory>
-        requires reading { reading < 4 * 10 ^ 18 }
-        requires trash_at { trash_at < 4 * 10 ^ 18 }
+        requires reading { IsReading reading }
+        requires trash_at { IsReading trash_at }
         ensures { IsLine (machine.set_trash self.old.rules reading token collection trash_at delete_at self.old.state) self.old self.new result }
     {
         if let Err(refusal) = self.owned(token, collection) {
             return Ok(refusal);
         }
         let delete_at = delete_at
-            .max(reading + changes::grace(&self.rules))
-            .max(trash_at + changes::guard(&self.rules));
+            .max(reading + grace_nanos(self.rules.ttl, self.rules.skew))
+            .max(trash_at + guard_nanos(self.rules.skew));
         changes::set_times(
             &mut self.collections,
             collection,
@@ -217,7 +218,7 @@ impl Table {
         preserve: bool,
     ) -> Result<TableAnswer, NoMemory>
         requires room { IsTrue (machine.has_room self.old.state) }
-        requires reading { reading < 4 * 10 ^ 18 }
+        requires reading { IsReading reading }
         ensures line { IsLine (machine.update self.old.rules reading token collection made preserve self.old.state) self.old self.new result }
 
         // An update that is made leaves no more versions than the rules allow.
@@ -257,7 +258,7 @@ impl Table {
         collection: u64,
         version: Option<u64>,
     ) -> Result<TableAnswer, NoMemory>
-        requires { reading < 4 * 10 ^ 18 }
+        requires { IsReading reading }
         ensures { IsLine (machine.read self.old.rules reading token collection version self.old.state) self.old self.new result }
     {
         self.answer_of_read(reading, token, collection, version)
@@ -270,7 +271,7 @@ impl Table {
         collection: u64,
         version: Option<u64>,
     ) -> Result<TableAnswer, NoMemory>
-        requires { reading < 4 * 10 ^ 18 }
+        requires { IsReading reading }
         ensures { IfOk result (λ answer. machine.read self.now.rules reading token collection version self.now.state ≡ machine.stays answer self.now.state) }
     {
         let Some(row) = changes::version_of(&self.records, collection, version) else {
