@@ -16,6 +16,7 @@ pub struct DeviceRules {
 }
 
 /// A query to a device. A `token` is that of the client for whom an answer Touched or Written issues a signature; without one, none is issued.
+/// Besides the answers named here, each but Accept, PullNext and Restart may be answered StoreFault.
 #[derive(Drop, Debug)]
 pub enum DeviceQuery {
     /// Renews the time of the replica where it holds the block's bytes. Answers ReadOnly, Absent, Touched, Collision or Corrupt.
