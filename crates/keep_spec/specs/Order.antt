@@ -34,7 +34,7 @@ pub record IsByWeight (weight_of : ℕ → List ℕ) (n : ℕ) (order : List ℕ
 -- ---- services, by their places in a list
 
 abbrev pub service_weight : List ℕ → List (List ℕ) → ℕ → List ℕ
-service_weight digest services n = weight digest (slice_index_or services n [])
+service_weight digest services n = slice_index_or (map (weight digest) services) n []
 
 abbrev pub service_order : List ℕ → List (List ℕ) → List ℕ
 service_order digest services = by_weight (service_weight digest services) (numbers_from 0 (length services))

@@ -1,0 +1,4 @@
+pub mod ByWeight
+pub mod Distinct
+pub mod Lists
+pub mod Sorted
