@@ -1,6 +1,9 @@
 pub mod Block
 pub mod Collections
 pub mod Device
+pub mod Index
+pub mod Lists
+pub mod Plan
 pub mod Requests
 pub mod Store
 pub mod Table
