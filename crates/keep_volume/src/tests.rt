@@ -214,13 +214,13 @@ fn corrupted(alloc: Global) -> Result<MemoryStore, Fail> {
     Ok(store)
 }
 
-fn ask<S: Store>(
+fn answer_to<S: Store>(
     alloc: Global,
     device: &mut Volume<S>,
     reading: u64,
-    ask: Ask,
+    asked: Ask,
 ) -> Result<DeviceAnswer, Fail> {
-    let query = query_of(alloc, ask)?;
+    let query = query_of(alloc, asked)?;
     Ok(device.step(reading.min(3_999_999_999_999_999_999), &query)?)
 }
 
@@ -232,13 +232,13 @@ fn each_call_answers_and_changes_its_store_once_at_most(rt: HostRuntime) -> Resu
         let mut device = Volume::open(alloc, Counted::over(store), RULES)
             .ok()
             .expect(&rt, "opens");
-        let _ = ask(alloc, &mut device, T, Ask::Accept(0, "foo", T))?;
-        let answer = ask(alloc, &mut device, reading, query)?;
+        let _ = answer_to(alloc, &mut device, T, Ask::Accept(0, "foo", T))?;
+        let answer = answer_to(alloc, &mut device, reading, query)?;
         let text = format!(in alloc; "{answer:?}")?;
         let fits = text.starts_with(start) && text.ends_with(end);
-        assert!(&rt; fits, "{text} and not {start} {end}");
+        assert!(rt; fits, "{text} and not {start} {end}");
         let seen = device.into_store();
-        assert_eq!(&rt;
+        assert_eq!(rt;
             (seen.changes, seen.begins_with_get),
             (changes, begins_with_get),
             "at {query:?}"
@@ -248,19 +248,26 @@ fn each_call_answers_and_changes_its_store_once_at_most(rt: HostRuntime) -> Resu
     Ok(())
 }
 
+// The store of a device that was not opened for a fault.
+fn given_back(opened: Result<Volume<MemoryStore>, OpenError<MemoryStore>>) -> Option<MemoryStore> {
+    match opened {
+        Err(OpenError::StoreFault { store }) => Some(store),
+        Err(OpenError::NoMemory { store: _ }) => None,
+        Ok(_) => None,
+    }
+}
+
 #[test]
 fn a_store_that_fails_at_opening_comes_back(rt: HostRuntime) -> Result<(), Fail> {
     let alloc = rt.alloc();
     for n in [1, 2] {
-        match Volume::open(alloc, memory(alloc, &[n])?, RULES) {
-            Err(OpenError::StoreFault { store }) => {
-                let mut device = Volume::open(alloc, store, RULES).ok().expect(&rt, "opens");
-                assert!(&rt; device.is_empty(), "at call {n}");
-                let _ = ask(alloc, &mut device, T, Ask::Accept(0, "foo", T))?;
-                assert!(&rt; device.next_pull().is_some(), "at call {n}");
-            }
-            _ => assert!(&rt; false, "call {n} fails"),
-        }
+        let store = given_back(Volume::open(alloc, memory(alloc, &[n])?, RULES)).expect(
+            &rt, "fails",
+        );
+        let mut device = Volume::open(alloc, store, RULES).ok().expect(&rt, "opens");
+        assert!(rt; device.is_empty(), "at call {n}");
+        let _ = answer_to(alloc, &mut device, T, Ask::Accept(0, "foo", T))?;
+        assert!(rt; device.next_pull().is_some(), "at call {n}");
     }
     Ok(())
 }
