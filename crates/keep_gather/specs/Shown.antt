@@ -1,7 +1,6 @@
 -- What a Gather has been given, with the latest first.
 use Rattle.std.specs.Prelude.{ℕ, List, map, reverse}
-use Rattle.keep_event.specs.Plan.{Page, Scan, Gathered, reached}
-use Rattle.keep_event.specs.declared.table.ScanRow.{ScanRow}
+use Rattle.keep_event.specs.Plan.{Page, Scan, Gathered}
 use Rattle.keep_gather.specs.declared.given.GivenPage.{GivenPage}
 use Rattle.keep_gather.specs.declared.given.GivenScan.{GivenScan}
 

@@ -1,7 +1,6 @@
-use Rattle.std.proofs.Common.{◌≡◌, ◌+◌, ◌-◌, ℕ, zero, suc, List, [], ◌∷◌, map, length, Option, Some, None, ap, sym, ◌∙◌, subst, arith}
+use Rattle.std.proofs.Common.{◌≡◌, ◌-◌, ℕ, suc, List, [], ◌∷◌, map, length, Option, Some, None, ap, sym, subst, arith}
 use Rattle.std.specs.Prelude.{slice_get, unwrap_or}
 use Rattle.std.specs.List.{last_or}
-use Rattle.std.specs.Option.{option_copied}
 use Rattle.keep_event.specs.declared.table.ScanRow.{ScanRow}
 use Rattle.keep_gather.proofs.gather.last_revision.Goals as goal
 
