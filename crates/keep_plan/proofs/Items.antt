@@ -1,7 +1,6 @@
 -- What the plan says of a trash item, of the holders that are kept, and of a pull item.
-use Rattle.std.proofs.Common.{◌≡◌, ◌≤◌, ◌<◌, ◌+◌, ℕ, zero, suc, List, [], ◌∷◌, length, filter, take, Bool, true, false, not, ◌&&◌, refl, sym, ◌∙◌, ap, subst, Option, None, Some, is_some, arith, inl, inr, nat_eq, if◌then◌else◌}
-use Rattle.std.specs.Prelude.{nat_lt, ◌==◌, ◌⊎◌, ◌||◌}
-use Rattle.std.specs.List.{list_any}
+use Rattle.std.proofs.Common.{◌≡◌, ℕ, zero, suc, List, [], ◌∷◌, length, filter, take, Bool, true, false, not, ◌&&◌, refl, sym, ◌∙◌, ap, subst, Option, None, Some, is_some, arith, inl, inr, nat_eq, if◌then◌else◌}
+use Rattle.std.specs.Prelude.{nat_lt, ◌||◌}
 use Rattle.std.specs.Option.{option_or}
 use Rattle.std.specs.Str.{bytes_eq}
 use Rattle.std.specs.Cmp.Lexicographic.{bytes_decides}
@@ -12,9 +11,9 @@ use Rattle.keep_spec.specs.Order.{device_order, device_weight}
 use Rattle.keep_event.specs.declared.lists.Entry.{Entry}
 use Rattle.keep_event.specs.declared.lists.TrashItem.{TrashItem}
 use Rattle.keep_event.specs.declared.lists.PullItem.{PullItem}
-use Rattle.keep_event.specs.Plan.{Page, Gathered, Holding, entry_on, entry_of, wanted_in, gathered_rows, is_member, is_holder, holders, kept, others, targets, trash_item_with, trash_item, trash_list, size_given, pull_item_with, pull_item, pull_list, holding, digests_gathered}
-use Rattle.keep_order.proofs.Lists.{in-given, in-filter, filter-in, last-in}
-use Rattle.keep_order.proofs.Distinct.{in-take, distinct-filter, distinct-take, numbers-distinct, number-bounds, in-by_weight, by_weight-distinct}
+use Rattle.keep_event.specs.Plan.{Page, Gathered, entry_on, entry_of, is_member, is_holder, holders, kept, others, targets, trash_item_with, trash_item, trash_list, size_given, pull_item_with, pull_item, pull_list, holding, digests_gathered}
+use Rattle.keep_order.proofs.Lists.{in-given, in-filter, last-in}
+use Rattle.keep_order.proofs.Distinct.{in-take, distinct-filter, distinct-take, number-bounds, in-by_weight, by_weight-distinct}
 use Rattle.keep_plan.specs.Laws.{Gives, GaveDigest, IsOfOther, AreEnough, FillsGap}
 
 -- ---- what was gathered
