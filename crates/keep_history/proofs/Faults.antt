@@ -1,4 +1,4 @@
--- Which events failed, over one part of a run and the next.
+-- Which events failed, over one part of a run and the next: `AreFaults-none`, `AreFaults-one`, `AreFaults-later` and `AreFaults-join`; `Agree-left` and `Agree-right`.
 use Rattle.std.proofs.Common.{◌≡◌, ℕ, ◌+◌, ◌<◌, ◌≤◌, Bool, true, false, ◌||◌, eqb, List, [], ◌∷◌, ◌++◌, refl, sym, ◌∙◌, arith, ◌⊎◌, inl, inr, length-append}
 use Rattle.std.proofs.lemmas.Bool.{cases_Bool, eqb-true}
 use Rattle.keep_spec.specs.Causes.{Rose}

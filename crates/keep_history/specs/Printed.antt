@@ -16,7 +16,7 @@ use Rattle.keep_event.specs.declared.device.DeviceAnswer.TheVariants as A
 use Rattle.keep_history.specs.declared.task.Outcome.{Outcome}
 use Rattle.keep_history.specs.declared.task.Outcome.TheVariants as O
 
--- a field, behind the space that separates it
+-- a field, after the space that separates it
 abbrev pub number_field : ℕ → List ℕ
 number_field n = 32 ∷ decimal n
 

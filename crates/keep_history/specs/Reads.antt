@@ -1,4 +1,4 @@
--- What the gets of a script give: bytes that an earlier line put, whose MD5 is the digest asked for.
+-- What the gets of a script return: bytes that an earlier line put, whose MD5 is the digest asked for.
 use Rattle.std.specs.Prelude.{◌≡◌, ℕ, List, [], ◌∷◌, ◌++◌, Option, None, Some, IfSome, Result, Ok, Err, ⊤, ◌⊎◌, true}
 use Rattle.md5.specs.Md5.{md5}
 use Rattle.keep_spec.specs.Config.{Configuration}
@@ -36,7 +36,7 @@ abbrev pub given_by : Configuration → List ℕ → Scene → ℕ → Option Ta
 given_by c failed scene reading (Some (S.Open (T.Get hash) actor)) = given hash (asked_at c failed scene reading (T.Get hash) actor).outcome
 given_by c failed scene reading _ = None
 
--- what the get that a line finishes gives, where it ends Bytes
+-- what the get that a line finishes returns, where it ends Bytes
 abbrev pub read_by : Configuration → List ℕ → Scene → Option Command → Option Read
 read_by c failed scene (Some (C.Finish name reading)) = given_by c failed scene reading (state_of_name name scene.names)
 read_by c failed scene _ = None
@@ -50,7 +50,7 @@ pub record IsOfPut (put : List (List ℕ)) (r : Read) : Type 0 where
   pub digest : md5 r.bytes ≡ r.digest
   pub put_before : IsAmong r.bytes put
 
--- each get from here on gives bytes that were put by then
+-- each get from here on returns bytes that were put by then
 abbrev pub AreOfPuts : Configuration → List ℕ → Scene → List (List ℕ) → List (List ℕ) → Type 0
 AreOfPuts c failed scene put [] = ⊤
 AreOfPuts c failed scene put (piece ∷ rest) =
@@ -65,6 +65,6 @@ abbrev pub ReadsOfPieces : ℕ → List ℕ → State → List (List ℕ) → Ty
 ReadsOfPieces stores failed start [] = ⊤
 ReadsOfPieces stores failed start (piece ∷ rest) = AreOfPutsUnder (config_for stores (text_of piece)) failed start rest
 
--- In the run of an input that begins with an empty device each get that ends Bytes gives bytes of the digest asked for, which an earlier line put.
+-- In the run of an input that begins with an empty device each get that ends Bytes returns bytes of the digest asked for, which an earlier line put.
 abbrev pub ReadsAreOfPuts : ℕ → List ℕ → State → List ℕ → Type 0
 ReadsAreOfPuts stores failed start bytes = is_empty start ≡ true → ReadsOfPieces stores failed start (cut bytes)

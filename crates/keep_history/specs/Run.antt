@@ -36,7 +36,7 @@ by_verdict input_too_long number after sofar go = record { status = InputTooLong
 by_verdict fits number None sofar go = record { status = BadLine number; effect = sofar }
 by_verdict fits number (Some after) sofar go = go after
 
--- the lines from one on, where so many bytes and lines were taken before
+-- the lines from one on, where `taken` bytes and `number` lines came before
 unfoldable pub run_lines : Configuration → List ℕ → ℕ → ℕ → Effect → List (List ℕ) → End
 run_lines c failed taken number sofar [] = record { status = Done; effect = sofar }
 run_lines c failed taken number sofar (piece ∷ rest) =
@@ -65,7 +65,7 @@ abbrev pub then_fits : ℕ → Result Configuration Field → Result Configurati
 then_fits stores (Err field) = Err field
 then_fits stores (Ok c) = fitted c (misfit stores c)
 
--- the configuration of a first line, for so many stores
+-- the configuration of a first line, for `stores` stores
 abbrev pub config_for : ℕ → List ℕ → Result Configuration Field
 config_for stores text = then_fits stores (config_of text)
 
@@ -91,12 +91,12 @@ run_pieces stores failed s [] = record { status = BadConfig F.Line; effect = at_
 run_pieces stores failed s (piece ∷ rest) =
     run_from (verdict_of line_max input_max 0 (length (text_of piece)) (length piece)) (config_for stores (text_of piece)) failed (length piece) s rest
 
--- the run of an input with so many stores, of which the first makes this device, where the events of these numbers failed
+-- the run of an input with `stores` stores, of which the first makes this device, where the events of these numbers failed
 unfoldable pub run_of : ℕ → List ℕ → State → List ℕ → End
 run_of stores failed s bytes = run_pieces stores failed s (cut bytes)
 
 -- MOMENTS
--- A moment of a run, between two events: what the device has, and the text of the lines done. A line's text comes behind its last event.
+-- A moment of a run, between two events: what the device has, and the text of the lines done. A line's text comes after its last event.
 abbrev pub Passes : Configuration → List ℕ → ℕ → ℕ → Effect → List (List ℕ) → State → List ℕ → Type 0
 Passes c failed taken number sofar [] s text = (s ≡ sofar.scene.state) × (text ≡ sofar.text)
 Passes c failed taken number sofar (piece ∷ rest) s text =

@@ -1,5 +1,5 @@
 -- The script line of a text: a JSON object with exactly the members of its kind. The language is this project's own.
-use Rattle.std.specs.Prelude.{ℕ, ◌<◌, ⊤, ◌+◌, ◌==◌, ◌&&◌, ◌||◌, nat_lt, nat_le, List, [], ◌++◌, length, Bool, true, false, Option, None, Some, is_some, is_none, option_and_then, option_map, if◌then◌else◌, codes, Result, Ok, Err}
+use Rattle.std.specs.Prelude.{ℕ, ⊤, ◌+◌, ◌==◌, ◌&&◌, ◌||◌, nat_lt, nat_le, List, [], ◌++◌, length, Bool, true, false, Option, None, Some, is_some, is_none, option_and_then, option_map, if◌then◌else◌, codes, Result, Ok, Err}
 use Rattle.std.specs.Char.{is_ascii_alphanumeric}
 use Rattle.std.specs.List.{list_all}
 use Rattle.std.specs.Option.{option_or}
@@ -9,6 +9,8 @@ use Rattle.hex.specs.declared.error.FromHexError.{FromHexError}
 use Rattle.serde_json.specs.Data.{Data, Items, no_items, item}
 use Rattle.serde_json.specs.Find.{get, as_str, as_array, as_number, as_u64}
 use Rattle.keep_spec.specs.Digest.{is_digest, bytes_of_digits}
+use Rattle.keep_spec.specs.Times.{IsReading}
+use Rattle.keep_spec.specs.declared.times.TheConstants.{READING_END}
 use Rattle.keep_spec.specs.Json.{value_of, text_at, number_at, truth_or, has_members}
 use Rattle.keep_event.specs.declared.table.SaveRequest.{SaveRequest}
 use Rattle.keep_history.specs.declared.task.Command.{Command}
@@ -31,9 +33,13 @@ is_task_name text = nat_le 1 (length text) && nat_le (length text) 64 && list_al
 abbrev pub name_at : List ℕ → Data → Option (List ℕ)
 name_at field d = option_and_then (λ text. if is_task_name text then Some text else None) (text_at field d)
 
--- nanoseconds since 1970, below 4 * 10^18
+-- a reading at a name: nanoseconds since 1970, below the end of readings
+abbrev pub time_at : List ℕ → Data → Option ℕ
+time_at field d = option_and_then (λ n. if nat_lt n READING_END then Some n else None) (number_at field d)
+
+-- the reading of a line
 abbrev pub reading_at : Data → Option ℕ
-reading_at d = option_and_then (λ n. if nat_lt n 4000000000000000000 then Some n else None) (number_at (codes "at") d)
+reading_at d = time_at (codes "at") d
 
 -- the reading that a command is done at
 abbrev pub reading_of : Command → ℕ
@@ -42,7 +48,7 @@ reading_of (C.Finish name reading) = reading
 
 -- the times of a trash are readings
 abbrev pub HasTimes : Opening → Type 0
-HasTimes (O.Trash token collection trash_at delete_at) = trash_at < 4000000000000000000
+HasTimes (O.Trash token collection trash_at delete_at) = IsReading trash_at
 HasTimes _ = ⊤
 
 abbrev pub HasCommandTimes : Command → Type 0
@@ -86,16 +92,15 @@ abbrev pub digest_of_data : Option Data → Option (Option (List ℕ))
 digest_of_data None = Some None
 digest_of_data (Some d) = digest_of_text (as_str d)
 
--- so many members, and one more where a digest is given
-abbrev pub members_with : ℕ → Option (List ℕ) → ℕ
-members_with n None = n
-members_with n (Some hash) = n + 1
+-- `n` members, and one more where an optional one is given
+abbrev pub members_if : ℕ → Bool → ℕ
+members_if n given = if given then n + 1 else n
 
 -- `open`, `at`, `do`, `token`, `server`, `bytes`, and `digest` where it is given
 abbrev pub put_of_data : Data → Option Opening
 put_of_data d =
     option_and_then (λ token. option_and_then (λ server. option_and_then (λ bytes. option_and_then (λ hash.
-    if has_members (members_with 6 hash) d then Some (O.Put token server bytes hash) else None)
+    if has_members (members_if 6 (is_some hash)) d then Some (O.Put token server bytes hash) else None)
     (digest_of_data (get (codes "digest") d)))
     (option_and_then bytes_of_text (text_at (codes "bytes") d)))
     (server_at d)) (text_at (codes "token") d)
@@ -172,10 +177,6 @@ abbrev pub number_of_data : Option Data → Option (Option ℕ)
 number_of_data None = Some None
 number_of_data (Some d) = option_map Some (option_and_then as_u64 (as_number d))
 
--- so many members, and one more where a member is there
-abbrev pub members_if : ℕ → Bool → ℕ
-members_if n there = if there then n + 1 else n
-
 -- at most 10^18
 abbrev pub want_at : Data → Option ℕ
 want_at d = option_and_then (λ n. if nat_le n 1000000000000000000 then Some n else None) (number_at (codes "want") d)
@@ -212,10 +213,6 @@ read_of_data d =
     option_and_then (λ token. option_and_then (λ collection. option_map (O.Read token collection)
     (number_of_data (get (codes "version") d))) (text_at (codes "collection") d)) (text_at (codes "token") d)
     else None
-
--- a reading at a name
-abbrev pub time_at : List ℕ → Data → Option ℕ
-time_at field d = option_and_then (λ n. if nat_lt n 4000000000000000000 then Some n else None) (number_at field d)
 
 -- `open`, `at`, `do`, `token`, `collection`, `trash_at` and `delete_at`
 abbrev pub trash_of_data : Data → Option Opening
@@ -279,6 +276,6 @@ finishes names d =
 abbrev pub command_of_data : Names → Data → Option Command
 command_of_data names d = if is_some (get (codes "open") d) then opens names d else finishes names d
 
--- the command of a line, or None where it is no script line beside these names
+-- the command of a line, or None where it is no script line after these names
 unfoldable pub command_of : Names → List ℕ → Option Command
 command_of names text = option_and_then (command_of_data names) (value_of text)

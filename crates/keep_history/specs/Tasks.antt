@@ -1,20 +1,20 @@
 -- Tasks: how an opening ends at once or what task it makes, and what a task asks next or how it ends, a function of the task and of the answers so far. The order of the tests is this project's rule.
-use Rattle.std.specs.Prelude.{ℕ, ◌+◌, ◌-◌, ◌==◌, ◌||◌, ◌&&◌, nat_lt, not, filter, take, drop, replicate, is_some, List, [], ◌∷◌, ◌++◌, length, Bool, true, false, Option, None, Some, Result, Ok, Err, if◌then◌else◌, codes, option_map, unwrap_or, slice_get}
+use Rattle.std.specs.Prelude.{ℕ, ◌+◌, ◌==◌, ◌||◌, nat_lt, not, filter, List, [], ◌∷◌, ◌++◌, length, Bool, true, false, Option, None, Some, Result, Ok, Err, if◌then◌else◌, codes, option_map, unwrap_or, slice_get}
 use Rattle.std.specs.Str.{bytes_eq}
 use Rattle.std.specs.Fmt.{decimal}
 use Rattle.hex.specs.Hex.{encode_lower}
 use Rattle.md5.specs.Md5.{md5}
-use Rattle.keep_spec.specs.Sign.{hex8, signature_of, verdict}
+use Rattle.keep_spec.specs.Sign.{verdict}
+use Rattle.keep_spec.specs.Times.{expiry_at}
+use Rattle.keep_spec.specs.SignedText.{permission_hint}
 use Rattle.keep_spec.specs.Locator.{is_locator, locator_prefix_len, is_empty_block, digest, stripped}
 use Rattle.keep_spec.specs.Config.{Configuration, token_of}
-use Rattle.keep_spec.specs.Times.{expiry_at}
 use Rattle.keep_spec.specs.declared.config.Device.{Device}
 use Rattle.keep_spec.specs.declared.token.TokenId.{TokenId}
 use Rattle.keep_spec.specs.declared.unverified.Verified.{Verified}
 use Rattle.keep_spec.specs.declared.unverified.Unverified.{Unverified}
 use Rattle.keep_spec.specs.declared.unverified.Unverified.TheVariants as U
-use Rattle.keep_spec.specs.Manifest.{manifest_of, number_of}
-use Rattle.keep_spec.specs.SignedText.{signed, with_locators}
+use Rattle.keep_event.specs.Collections.{collection_number, collection_uuid, signed_row}
 use Rattle.keep_event.specs.declared.table.TableQuery.{TableQuery}
 use Rattle.keep_event.specs.declared.table.TableQuery.TheVariants as TQ
 use Rattle.keep_event.specs.declared.table.TableAnswer.{TableAnswer}
@@ -46,14 +46,10 @@ writable c = filter (λ d. not (is_read_only c d)) devices
 abbrev pub expiry_of : Configuration → ℕ → ℕ
 expiry_of c mtime = expiry_at c.ttl mtime
 
--- the permission hint of a digest for a token
-abbrev pub permission_hint : Configuration → List ℕ → List ℕ → ℕ → List ℕ
-permission_hint c hash token expiry = codes "+A" ++ signature_of hash token expiry c.ttl c.secret ++ 64 ∷ hex8 expiry
-
 -- the locator of a block whose replica has a time
 unfoldable pub signed_locator : Configuration → List ℕ → List ℕ → ℕ → List ℕ
 signed_locator c token bytes mtime =
-    encode_lower (md5 bytes) ++ 43 ∷ decimal (length bytes) ++ permission_hint c (md5 bytes) token (expiry_of c mtime)
+    encode_lower (md5 bytes) ++ 43 ∷ decimal (length bytes) ++ permission_hint (md5 bytes) token (expiry_of c mtime) c.ttl c.secret
 
 abbrev pub empty_locator : List ℕ
 empty_locator = codes "d41d8cd98f00b204e9800998ecf8427e+0"
@@ -119,24 +115,6 @@ with_token None make = Err O.UnknownToken
 with_token (Some id) make = make id
 
 -- COLLECTIONS
--- the UUID of a collection: the cluster's name, its kind, and the number in decimal with zeros before it up to 15 digits
-abbrev pub padded : ℕ → List ℕ
-padded n = replicate (15 - length (decimal n)) 48 ++ decimal n
-
-abbrev pub kind_of_collections : List ℕ
-kind_of_collections = codes "-4zz18-"
-
-unfoldable pub collection_uuid : Configuration → ℕ → List ℕ
-collection_uuid c n = c.cluster ++ kind_of_collections ++ padded n
-
--- a UUID of this cluster's collections, by its length and its first parts
-abbrev pub has_collection_form : Configuration → List ℕ → Bool
-has_collection_form c text = (length text == 27) && bytes_eq (take 12 text) (c.cluster ++ kind_of_collections)
-
--- the number of a collection, in 15 decimal digits; a text that is no UUID of the cluster's has the number 0, which no collection has
-unfoldable pub collection_number : Configuration → List ℕ → ℕ
-collection_number c text = if has_collection_form c text then unwrap_or (number_of (drop 12 text)) 0 else 0
-
 abbrev pub asks_table : TableQuery → Result Task Outcome
 asks_table q = Ok (T.Table q)
 
@@ -220,7 +198,7 @@ abbrev pub fetch_end : DeviceAnswer → Option Outcome
 fetch_end (A.Block bytes) = Some (O.Bytes bytes)
 fetch_end _ = None
 
--- a fetch from each device in turn, until one gives the block
+-- a fetch from each device in turn, until one has the block
 unfoldable pub fetches : List ℕ → Found → List ℕ → List DeviceAnswer → Next
 fetches hash found [] answers = ends (fetched_none found)
 fetches hash found (d ∷ ds) [] = asks d (Q.Fetch hash)
@@ -228,7 +206,7 @@ fetches hash found (d ∷ ds) (a ∷ answers) = ends_or (fetch_end a) (fetches h
 
 -- the locator of a touch: the stripped text of the one given, and a permission by the replica's time
 unfoldable pub touched_locator : Configuration → List ℕ → List ℕ → List ℕ → ℕ → List ℕ
-touched_locator c token hash text mtime = text ++ permission_hint c hash token (expiry_of c mtime)
+touched_locator c token hash text mtime = text ++ permission_hint hash token (expiry_of c mtime) c.ttl c.secret
 
 abbrev pub touch_end : Configuration → List ℕ → List ℕ → List ℕ → DeviceAnswer → Option Outcome
 touch_end c token hash text (A.Touched mtime) = Some (O.Touched (touched_locator c token hash text mtime))
@@ -287,11 +265,6 @@ abbrev pub token_of_query : TableQuery → List ℕ
 token_of_query (TQ.Read token collection version) = token
 token_of_query _ = []
 
--- a row's text with each locator signed for the token; a text that isn't a manifest, which the table never gives, stays
-abbrev pub signed_text : Configuration → List ℕ → Option ℕ → List ℕ → List ℕ
-signed_text c token None text = text
-signed_text c token (Some expiry) text = if is_some (manifest_of text) then with_locators (signed token expiry c.ttl c.secret) text else text
-
 -- what was set, brought back or swept goes into the end as it was answered; any other answer refused what was asked
 abbrev pub end_as_answered : TableAnswer → Outcome
 end_as_answered (TA.TrashSet trash_at delete_at) = O.TrashSet trash_at delete_at
@@ -303,5 +276,5 @@ end_as_answered answer = O.Refused answer
 unfoldable pub table_end : Configuration → TableQuery → TableAnswer → Outcome
 table_end c q (TA.Saved n version portable) = O.Saved (collection_uuid c n) version portable
 table_end c q (TA.Updated n version portable) = O.Updated (collection_uuid c n) version portable
-table_end c q (TA.Row n version expiry want trash_at text) = O.Row version want trash_at (signed_text c (token_of_query q) expiry text)
+table_end c q (TA.Row n version expiry want trash_at text) = O.Row version want trash_at (signed_row c (token_of_query q) expiry text)
 table_end c q answer = end_as_answered answer

@@ -1,174 +1,219 @@
-// Tasks: what opens them, what they go on with, and how they end.
+// Tasks: what opens them, what they go on with, how they end, and the script lines that name them.
 use keep_event::{Block, SaveRequest, TableAnswer, TableQuery};
 use keep_spec::{Bytes, Digest, Portable, TokenId};
 
-/// What a task is opened with. A server and a device are named by their numbers in the configuration, from 0.
+/// What a task is opened with. Servers and devices are named by their numbers in the configuration, from 0; a collection by the text of its UUID.
+/// The rules of each opening and of its end are this project's own.
 #[derive(Drop, Debug)]
 pub enum Opening {
+    /// Stores bytes. With a digest, only if it is the MD5 of the bytes.
     Put {
         token: Bytes,
         server: u32,
         bytes: Bytes,
         digest: Option<Digest>,
     },
+    /// Returns the bytes of the block that a locator names. The locator is a text as it was given, with its hints.
     Get {
         token: Bytes,
         server: u32,
         locator: Bytes,
     },
+    /// Renews the time of a block's replica, and signs its locator again.
     Touch {
         token: Bytes,
         server: u32,
         locator: Bytes,
     },
+    /// Brings the trashed copies of a block back. Only the system token may.
     Untrash {
         token: Bytes,
         server: u32,
         digest: Digest,
     },
+    /// Restarts a device, which forgets its lists of blocks to trash and to pull.
     Restart {
         device: u32,
     },
-    /// A collection is named by the text of its UUID.
+    /// Makes a collection.
     Save {
         request: SaveRequest,
     },
+    /// Gives a collection a new version. With `preserve` the version before it is kept until the collection goes.
     Update {
         collection: Bytes,
         preserve: bool,
         request: SaveRequest,
     },
+    /// Returns the text of a collection, of its current version where none is named, with each locator signed for the token.
     Read {
         token: Bytes,
         collection: Bytes,
         version: Option<u64>,
     },
-    /// Both times are readings, in nanoseconds since 1970.
+    /// Puts a collection into the trash from one time on, to be deleted at another. Both are readings, in nanoseconds since 1970.
     Trash {
         token: Bytes,
         collection: Bytes,
         trash_at: u64,
         delete_at: u64,
     },
+    /// Takes a collection out of the trash.
     Restore {
         token: Bytes,
         collection: Bytes,
     },
+    /// Removes the versions and collections whose time has come.
     Sweep,
 }
 
 /// A task that its opening did not end, with what its queries need.
 #[derive(Drop, Debug)]
 pub enum Task {
+    /// Compares on each writable device, then writes on each, until one takes the block.
     Put {
         token: Bytes,
         id: TokenId,
         block: Block,
     },
+    /// Fetches from each device until one has the block.
     Get {
         digest: Digest,
     },
-    /// The stripped text is the locator without its hints.
+    /// Touches on each writable device until one has the block. `stripped` is the locator without its hints.
     Touch {
         token: Bytes,
         id: TokenId,
         digest: Digest,
         stripped: Bytes,
     },
+    /// Untrashes on each writable device.
     Untrash {
         digest: Digest,
     },
+    /// Restarts the device.
     Restart {
         device: u32,
     },
+    /// Asks the table once.
     Table {
         query: TableQuery,
     },
 }
 
-/// How a task ends. An expiry is in seconds since 1970, times are in nanoseconds, a place is an offset in bytes. A row's text is signed where it has an expiry.
+/// How a task ends. An expiry is in seconds since 1970, other times are in nanoseconds since 1970, a place is an offset in bytes from 0.
 #[derive(Drop, Debug)]
 pub enum Outcome {
+    /// A put's block is on a device. The locator is signed for the put's token until the replica's time and the lifetime of signatures later; the empty
+    /// block's has no hint.
     Stored {
         locator: Bytes,
     },
+    /// A touch found the block. The locator is the one that was given without its hints, signed as `Stored`'s; the empty block's has no hint.
     Touched {
         locator: Bytes,
     },
+    /// A get found the block. The bytes have the MD5 that was asked for.
     Bytes {
         bytes: Bytes,
     },
+    /// An untrash brought this many trashed copies back; 0 where none was in the trash and a device has the block.
     Untrashed {
         copies: u64,
     },
+    /// The device was restarted.
     Restarted,
+    /// The configuration doesn't have the token. It comes before any other refusal, and nothing was asked.
     UnknownToken,
+    /// A put of more than 67,108,864 bytes. Nothing was asked.
     TooLong,
+    /// A put's bytes have this MD5 and not the digest that was given. Nothing was asked.
     HashMismatch {
         computed: Digest,
     },
+    /// A device holds other bytes with the block's MD5. They stay.
     Collision,
+    /// No writable device took the block, and no store failed. Nothing was written.
     NoRoom,
+    /// A store failed, and no device gave another end.
     StoreFault,
+    /// The text is no locator: the first `at` bytes are the longest beginning that one has. Nothing was asked.
     BadLocator {
         at: u64,
     },
+    /// The locator has no signature that is valid for the token, or an untrash wants the system token. Nothing was asked.
     Forbidden,
+    /// The locator's signature was valid for the token up to its expiry. Nothing was asked.
     Expired {
         expiry: u32,
     },
+    /// No device has the block, or none takes changes.
     NotFound,
+    /// A device holds bytes with this other MD5 under the digest that was asked for, and no device has the block. It is the first that was found.
     Corrupt {
         found: Digest,
     },
+    /// The collection was made, with its version's number and the portable hash of its text.
     Saved {
         uuid: Bytes,
         version: u64,
         portable: Portable,
     },
+    /// The collection has a new version.
     Updated {
         uuid: Bytes,
         version: u64,
         portable: Portable,
     },
+    /// The text of a version, with the number of replicas that it wants, and when the collection goes into the trash, if that is set. Its locators are signed
+    /// for the token, unless the collection is in the trash.
     Row {
         version: u64,
         want: u8,
         trash_at: Option<u64>,
         text: Bytes,
     },
+    /// The collection's times were set to these.
     TrashSet {
         trash_at: u64,
         delete_at: u64,
     },
+    /// The collection is out of the trash.
     Restored,
+    /// A sweep removed this many versions of collections that stay, and this many collections.
     Swept {
         versions: u64,
         collections: u64,
     },
-    /// The table refused what was asked.
+    /// The table refused what was asked, and is as before.
     Refused {
         answer: TableAnswer,
     },
 }
 
-/// What has become of a name that a script opened; a task that ended with a locator, or with a row's text, can be referred to. The actor is the number of its opening among all openings, from 0.
+/// What has become of a name that a script opened. The actor is the number of its opening among all openings, from 0.
 #[derive(Drop, Debug)]
 pub enum TaskState {
+    /// The task has not ended.
     Open { task: Task, actor: u32 },
+    /// The task ended with a locator, which later lines can name.
     Located { locator: Bytes },
+    /// The task ended with a row's text, whose locators later lines can name.
     Row { text: Bytes },
+    /// The task ended otherwise.
     Ended,
 }
 
 /// What a script line asks for. The reading is in nanoseconds since 1970.
 #[derive(Drop, Debug)]
 pub enum Command {
+    /// Opens a task under a name that has not been opened.
     Open {
         name: Bytes,
         reading: u64,
         opening: Opening,
     },
+    /// Asks until the open task of a name ends.
     Finish {
         name: Bytes,
         reading: u64,

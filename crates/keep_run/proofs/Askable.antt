@@ -1,10 +1,9 @@
--- Open tasks stay in the form that may be asked.
+-- Open tasks stay in the form that may be asked: `opened-askable` for what an opening makes, `open-askable`, `ended-askable` and `gone-askable` when a name is set, `found-askable` for a name that is looked up.
 use Rattle.std.proofs.Common.{◌≡◌, ℕ, List, Option, None, Some, IfSome, Ok, subst}
 use Rattle.keep_spec.specs.Config.{Configuration}
 use Rattle.keep_history.specs.declared.task.Opening.{Opening}
 use Rattle.keep_history.specs.declared.task.Opening.TheVariants as Open
 use Rattle.keep_history.specs.declared.task.Outcome.{Outcome}
-use Rattle.keep_history.specs.declared.task.Outcome.TheVariants as O
 use Rattle.keep_history.specs.declared.task.Task.{Task}
 use Rattle.keep_history.specs.declared.task.TaskState.{TaskState}
 use Rattle.keep_history.specs.declared.task.TaskState.TheVariants as S
@@ -14,21 +13,15 @@ use Rattle.keep_history.specs.Script.{HasTimes}
 use Rattle.keep_history.specs.Tasks.{opened}
 use Rattle.keep_run.specs.Askable.{IsAskable, IsAskableState, AreAskable}
 use Rattle.keep_run.specs.Commands.{open_task_of}
-use Rattle.keep_run.proofs.NamesAll.{named, looked-up}
+use Rattle.keep_run.proofs.Names.{after-end, named, looked-up}
 use Rattle.keep_run.proofs.Openings.{IsMade, OkHas, opened-has}
 
 made : (c : Configuration) (opening : Opening) → HasTimes opening → IsMade IsAskable c opening
 made c (Open.Put token server bytes hash) h = λ id. tt
 made c (Open.Get token server locator) h = λ hash. tt
 made c (Open.Touch token server locator) h = λ id hash. tt
-made c (Open.Untrash token server hash) h = tt
-made c (Open.Restart device) h = tt
-made c (Open.Save request) h = tt
-made c (Open.Update collection preserve request) h = tt
-made c (Open.Read token collection version) h = tt
 made c (Open.Trash token collection trash_at delete_at) h = h
-made c (Open.Restore token collection) h = tt
-made c Open.Sweep h = tt
+made c _ h = tt
 
 -- an opening of a line makes a task that may be asked
 pub opened-askable : (c : Configuration) (opening : Opening) (reading : ℕ) (task : Task) → HasTimes opening → opened c opening reading ≡ Ok task → IsAskable task
@@ -38,29 +31,7 @@ pub open-askable : (name : List ℕ) (task : Task) (actor : ℕ) (names : Names)
 open-askable name task actor names p h = named IsAskableState name (S.Open task actor) names p h
 
 after-askable : (o : Outcome) → IsAskableState (state_after o)
-after-askable (O.Stored locator) = tt
-after-askable (O.Touched locator) = tt
-after-askable (O.Bytes bytes) = tt
-after-askable (O.Untrashed copies) = tt
-after-askable O.Restarted = tt
-after-askable O.UnknownToken = tt
-after-askable O.TooLong = tt
-after-askable (O.HashMismatch computed) = tt
-after-askable O.Collision = tt
-after-askable O.NoRoom = tt
-after-askable O.StoreFault = tt
-after-askable (O.BadLocator at) = tt
-after-askable O.Forbidden = tt
-after-askable (O.Expired expiry) = tt
-after-askable O.NotFound = tt
-after-askable (O.Corrupt found) = tt
-after-askable (O.Saved uuid version portable) = tt
-after-askable (O.Updated uuid version portable) = tt
-after-askable (O.Row version want trash_at text) = tt
-after-askable (O.TrashSet trash_at delete_at) = tt
-after-askable O.Restored = tt
-after-askable (O.Swept versions collections) = tt
-after-askable (O.Refused answer) = tt
+after-askable o = after-end IsAskableState (λ locator. tt) (λ text. tt) tt o
 
 -- a name whose task has ended
 pub ended-askable : (name : List ℕ) (o : Outcome) (names : Names) → AreAskable names → AreAskable (with_name name (state_after o) names)

@@ -1,4 +1,4 @@
--- A query of the table raises each of its counters by one at most.
+-- The counters of a table: a query raises each by one at most (`line-few`, `same-few`, `few-to`).
 use Rattle.std.proofs.Common.{◌≡◌, ◌≤◌, ◌+◌, ℕ, Bool, true, false, Option, None, Some, Result, Ok, Err, arith, if◌then◌else◌}
 use Rattle.std.specs.Prelude.{nat_le}
 use Rattle.keep_spec.specs.Config.{Configuration, token_of}
@@ -10,7 +10,7 @@ use Rattle.keep_event.specs.declared.table.TableAnswer.{TableAnswer}
 use Rattle.keep_event.specs.declared.table.TableAnswer.TheVariants.{TooManyVersions}
 use Rattle.keep_event.specs.declared.table.TableQuery.{TableQuery}
 use Rattle.keep_event.specs.declared.table.TableQuery.TheVariants as TQ
-use Rattle.keep_run.specs.Commands.{AreFew, RisesByOne}
+use Rattle.keep_run.specs.Scenes.{CountersUpTo, RisesByOne}
 
 module _ (s : State) where
   abbrev Rises : Reply → Type 0
@@ -19,7 +19,7 @@ module _ (s : State) where
   rises-to : (t : State) → t.numbers ≤ s.numbers + 1 → t.revisions ≤ s.revisions + 1 → t.rounds ≤ s.rounds + 1 → RisesByOne s t
   rises-to t a b c = λ most h. record { numbers = omega (arith, a, h.numbers); revisions = omega (arith, b, h.revisions); rounds = omega (arith, c, h.rounds) }
 
-  same-few : RisesByOne s s
+  pub same-few : RisesByOne s s
   same-few = λ most h. record { numbers = omega (arith, h.numbers); revisions = omega (arith, h.revisions); rounds = omega (arith, h.rounds) }
 
   unless-few : {X : Type 0} (r : Result X TableAnswer) (next : X → Reply) → ((x : X) → Rises (next x)) → Rises (unless_refused s r next)
@@ -60,5 +60,5 @@ module _ (s : State) where
   line-few c reading (TQ.Scan round after limit) = same-few
 
 -- no more than a greater number
-pub few-to : (most more : ℕ) (s : State) → more ≡ most + 1 → AreFew (most + 1) s → AreFew more s
+pub few-to : (most more : ℕ) (s : State) → more ≡ most + 1 → CountersUpTo (most + 1) s → CountersUpTo more s
 few-to most more s e h = record { numbers = omega (arith, e, h.numbers); revisions = omega (arith, e, h.revisions); rounds = omega (arith, e, h.rounds) }

@@ -1,4 +1,4 @@
--- Gets give what was put.
+-- The bytes that gets return were put: `told-reads`.
 use Rattle.std.proofs.Common.{◌≡◌, ℕ, zero, suc, ◌+◌, Bool, true, false, List, [], ◌∷◌, ◌++◌, length, Option, None, Some, IfSome, Result, Ok, Err, inl, inr, refl, ◌∙◌, ap, option_and_then, arith}
 use Rattle.std.specs.Prelude.{⊤}
 use Rattle.std.proofs.lemmas.Bool.{and_parts, eqb-true}
@@ -20,7 +20,6 @@ use Rattle.keep_history.specs.declared.task.Command.TheVariants as C
 use Rattle.keep_history.specs.declared.task.Opening.{Opening}
 use Rattle.keep_history.specs.declared.task.Opening.TheVariants as Open
 use Rattle.keep_history.specs.declared.task.Outcome.{Outcome}
-use Rattle.keep_history.specs.declared.task.Outcome.TheVariants as O
 use Rattle.keep_history.specs.declared.task.Task.{Task}
 use Rattle.keep_history.specs.declared.task.Task.TheVariants as T
 use Rattle.keep_history.specs.declared.task.TaskState.{TaskState}
@@ -35,8 +34,8 @@ use Rattle.keep_run.specs.Asked.{fetch_outcome}
 use Rattle.keep_run.specs.Runs.{BothTold}
 use Rattle.keep_run.proofs.Held.{HoldAll, BringsAll, all-found, step-all}
 use Rattle.keep_event.specs.Requests.{table_line}
-use Rattle.keep_run.proofs.NamesAll.{AllNames, named, looked-up}
-use Rattle.keep_run.proofs.Nexts.{single-asks, single-ends}
+use Rattle.keep_run.proofs.Names.{AllNames, after-end, named, looked-up}
+use Rattle.keep_run.proofs.Tasks.{single-asks, single-ends}
 use Rattle.keep_run.proofs.Openings.{IsMade, OkHas, opened-has}
 
 module _ (P : List ℕ → Type 0) where
@@ -128,35 +127,13 @@ module _ (P : List ℕ → Type 0) where
   NamesBring names = AllNames StateBrings names
 
   after-brings : (o : Outcome) → StateBrings (state_after o)
-  after-brings (O.Stored locator) = tt
-  after-brings (O.Touched locator) = tt
-  after-brings (O.Bytes bytes) = tt
-  after-brings (O.Untrashed copies) = tt
-  after-brings O.Restarted = tt
-  after-brings O.UnknownToken = tt
-  after-brings O.TooLong = tt
-  after-brings (O.HashMismatch computed) = tt
-  after-brings O.Collision = tt
-  after-brings O.NoRoom = tt
-  after-brings O.StoreFault = tt
-  after-brings (O.BadLocator at) = tt
-  after-brings O.Forbidden = tt
-  after-brings (O.Expired expiry) = tt
-  after-brings O.NotFound = tt
-  after-brings (O.Corrupt found) = tt
-  after-brings (O.Saved uuid version portable) = tt
-  after-brings (O.Updated uuid version portable) = tt
-  after-brings (O.Row version want trash_at text) = tt
-  after-brings (O.TrashSet trash_at delete_at) = tt
-  after-brings O.Restored = tt
-  after-brings (O.Swept versions collections) = tt
-  after-brings (O.Refused answer) = tt
+  after-brings o = after-end StateBrings (λ locator. tt) (λ text. tt) tt o
 
   names-after-bring : (name : List ℕ) (o : Option Outcome) (names : Names) → NamesBring names → NamesBring (names_after name o names)
   names-after-bring name None names h = h
   names-after-bring name (Some o) names h = named StateBrings name (state_after o) names (after-brings o) h
 
-  -- ---- what a fetch gives
+  -- ---- what a fetch returns
 
   abbrev is-of : List ℕ → Option Read → Type 0
   is-of hash o = IfSome o (λ r. (md5 r.bytes ≡ r.digest) × P r.bytes)
@@ -174,7 +151,7 @@ module _ (P : List ℕ → Type 0) where
   reply-given hash true s h = tt
   reply-given hash false s h = fetched-given hash s (machine.replica_of hash s) (all-found P (machine.replica hash) s.held h)
 
-  -- what a finished get of the one device gives
+  -- what a finished get of the one device returns
   finished-given : (turns : ℕ) (a : Asking) (n : ℕ) (s : State) (hash : List ℕ) → a.task ≡ T.Get hash → HoldAll P s.held → is-of hash (given hash (finished (suc (suc turns)) a n s [] (next a.config (T.Get hash) [])).outcome)
   unfolding finished
   finished-given turns a n s hash e h =
@@ -183,17 +160,9 @@ module _ (P : List ℕ → Type 0) where
       rw (single-asks a.config (T.Get hash) (Q.Fetch hash) refl, ended) (reply-given hash (fails_at a.failed n (Q.Fetch hash)) s h)
 
   given-of : (c : Configuration) (failed : List ℕ) (scene : Scene) (reading : ℕ) (st : Option TaskState) → HoldAll P scene.state.held → IfSome (given_by c failed scene reading st) (λ r. (md5 r.bytes ≡ r.digest) × P r.bytes)
-  given-of c failed scene reading None h = tt
-  given-of c failed scene reading (Some (S.Open (T.Put token id block) actor)) h = tt
   given-of c failed scene reading (Some (S.Open (T.Get hash) actor)) h =
       finished-given 126 (record { config = c; failed = failed; actor = actor; reading = reading; task = T.Get hash }) scene.count scene.state hash refl h
-  given-of c failed scene reading (Some (S.Open (T.Touch token id hash text) actor)) h = tt
-  given-of c failed scene reading (Some (S.Open (T.Untrash hash) actor)) h = tt
-  given-of c failed scene reading (Some (S.Open (T.Restart device) actor)) h = tt
-  given-of c failed scene reading (Some (S.Open (T.Table q) actor)) h = tt
-  given-of c failed scene reading (Some (S.Located locator)) h = tt
-  given-of c failed scene reading (Some (S.Row text)) h = tt
-  given-of c failed scene reading (Some S.Ended) h = tt
+  given-of c failed scene reading _ h = tt
 
   read-of : (c : Configuration) (failed : List ℕ) (scene : Scene) (o : Option Command) → HoldAll P scene.state.held → IfSome (read_by c failed scene o) (λ r. (md5 r.bytes ≡ r.digest) × P r.bytes)
   read-of c failed scene None h = tt
@@ -210,14 +179,7 @@ module _ (P : List ℕ → Type 0) where
   made-brings c (Open.Put token server bytes hash) p = λ id. p
   made-brings c (Open.Get token server locator) p = λ hash. tt
   made-brings c (Open.Touch token server locator) p = λ id hash. tt
-  made-brings c (Open.Untrash token server hash) p = tt
-  made-brings c (Open.Restart device) p = tt
-  made-brings c (Open.Save request) p = tt
-  made-brings c (Open.Update collection preserve request) p = tt
-  made-brings c (Open.Read token collection version) p = tt
-  made-brings c (Open.Trash token collection trash_at delete_at) p = tt
-  made-brings c (Open.Restore token collection) p = tt
-  made-brings c Open.Sweep p = tt
+  made-brings c _ p = tt
 
   -- ---- lines
 
@@ -242,19 +204,12 @@ module _ (P : List ℕ → Type 0) where
       }
 
   task-scene : (c : Configuration) (failed : List ℕ) (scene : Scene) (name : List ℕ) (reading : ℕ) (task : Task) (actor : ℕ) → TaskBrings task → SceneBrings scene → SceneBrings (task_effect c failed scene name reading task actor).scene
-  task-scene c failed scene name reading (T.Put token id block) actor p h = device-scene c failed scene name reading (T.Put token id block) actor p h
-  task-scene c failed scene name reading (T.Get hash) actor p h = device-scene c failed scene name reading (T.Get hash) actor p h
-  task-scene c failed scene name reading (T.Touch token id hash text) actor p h = device-scene c failed scene name reading (T.Touch token id hash text) actor p h
-  task-scene c failed scene name reading (T.Untrash hash) actor p h = device-scene c failed scene name reading (T.Untrash hash) actor p h
-  task-scene c failed scene name reading (T.Restart device) actor p h = device-scene c failed scene name reading (T.Restart device) actor p h
   task-scene c failed scene name reading (T.Table q) actor p h = record { held = h.held; names = named StateBrings name _ scene.names (after-brings (table_end c q (table_line c reading q scene.table).answer)) h.names }
+  task-scene c failed scene name reading task actor p h = device-scene c failed scene name reading task actor p h
 
   finished-scene : (c : Configuration) (failed : List ℕ) (scene : Scene) (name : List ℕ) (reading : ℕ) (st : Option TaskState) → IfSome st StateBrings → SceneBrings scene → EffectBrings (finish_state c failed scene name reading st)
-  finished-scene c failed scene name reading None p h = tt
   finished-scene c failed scene name reading (Some (S.Open task actor)) p h = task-scene c failed scene name reading task actor p h
-  finished-scene c failed scene name reading (Some (S.Located locator)) p h = tt
-  finished-scene c failed scene name reading (Some (S.Row text)) p h = tt
-  finished-scene c failed scene name reading (Some S.Ended) p h = tt
+  finished-scene c failed scene name reading _ p h = tt
 
   abbrev CommandBrings : Command → Type 0
   CommandBrings (C.Open name reading opening) = OpeningBrings opening
@@ -282,17 +237,11 @@ module _ (P Q : List ℕ → Type 0) (more : (bytes : List ℕ) → P bytes → 
 
   more-task : (task : Task) → TaskBrings P task → TaskBrings Q task
   more-task (T.Put token id block) h = more block h
-  more-task (T.Get hash) h = tt
-  more-task (T.Touch token id hash text) h = tt
-  more-task (T.Untrash hash) h = tt
-  more-task (T.Restart device) h = tt
-  more-task (T.Table q) h = tt
+  more-task _ h = tt
 
   more-state : (st : TaskState) → StateBrings P st → StateBrings Q st
   more-state (S.Open task actor) h = more-task task h
-  more-state (S.Located locator) h = tt
-  more-state (S.Row text) h = tt
-  more-state S.Ended h = tt
+  more-state _ h = tt
 
   more-names : (names : Names) → NamesBring P names → NamesBring Q names
   more-names [] h = tt
@@ -307,19 +256,9 @@ among-more bytes (x ∷ xs) put h = inr (among-more bytes xs put h)
 
 -- a line that puts has put its bytes
 put-brings : (put : List (List ℕ)) (o : Option Command) → IfSome o (CommandBrings (λ b. IsAmong b (bytes_put o ++ put)))
-put-brings put None = tt
 put-brings put (Some (C.Open name reading (Open.Put token server bytes hash))) = inl refl
-put-brings put (Some (C.Open name reading (Open.Get token server locator))) = tt
-put-brings put (Some (C.Open name reading (Open.Touch token server locator))) = tt
-put-brings put (Some (C.Open name reading (Open.Untrash token server hash))) = tt
-put-brings put (Some (C.Open name reading (Open.Restart device))) = tt
-put-brings put (Some (C.Open name reading (Open.Save request))) = tt
-put-brings put (Some (C.Open name reading (Open.Update collection preserve request))) = tt
-put-brings put (Some (C.Open name reading (Open.Read token collection version))) = tt
-put-brings put (Some (C.Open name reading (Open.Trash token collection trash_at delete_at))) = tt
-put-brings put (Some (C.Open name reading (Open.Restore token collection))) = tt
-put-brings put (Some (C.Open name reading Open.Sweep)) = tt
-put-brings put (Some (C.Finish name reading)) = tt
+put-brings put (Some (C.Open name reading _)) = tt
+put-brings put _ = tt
 
 of-put : (put : List (List ℕ)) (o : Option Read) → IfSome o (λ r. (md5 r.bytes ≡ r.digest) × IsAmong r.bytes put) → IfSome o (IsOfPut put)
 of-put put None h = tt

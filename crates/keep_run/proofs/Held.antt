@@ -1,4 +1,4 @@
--- What a device holds: a line of the machine brings no bytes but those of its query's block.
+-- What a device holds: a line of the machine brings no bytes but those of its query's block (`step-all`), and each replica found is held (`all-found`).
 use Rattle.std.proofs.Common.{ℕ, Bool, true, false, List, [], ◌∷◌, ◌++◌, Option, None, Some, option_map, IfSome, if◌then◌else◌}
 use Rattle.std.specs.Prelude.{max, ⊤, nat_lt, ◌==◌, ◌+◌}
 use Rattle.std.specs.Str.{bytes_eq}

@@ -1,4 +1,4 @@
--- What holds of the task that an opening makes.
+-- What holds of the task that an opening makes: `opened-has`.
 use Rattle.std.proofs.Common.{ℕ, ◌==◌, Bool, true, false, List, [], length, Option, None, Some, Result, Ok, Err, if◌then◌else◌}
 use Rattle.std.specs.Prelude.{⊤, nat_lt}
 use Rattle.md5.specs.Md5.{md5}
@@ -12,7 +12,8 @@ use Rattle.keep_history.specs.declared.task.Outcome.{Outcome}
 use Rattle.keep_history.specs.declared.task.Outcome.TheVariants as O
 use Rattle.keep_history.specs.declared.task.Task.{Task}
 use Rattle.keep_history.specs.declared.task.Task.TheVariants as T
-use Rattle.keep_history.specs.Tasks.{opened, writable, with_token, put_opened, get_opened, touch_opened, untrash_opened, where_writable, permitted, with_digest, has_other_digest, empty_locator, collection_number}
+use Rattle.keep_event.specs.Collections.{collection_number}
+use Rattle.keep_history.specs.Tasks.{opened, writable, with_token, put_opened, get_opened, touch_opened, untrash_opened, where_writable, permitted, with_digest, has_other_digest, empty_locator}
 
 module _ (P : Task → Type 0) where
   -- whatever task the opening may make has P

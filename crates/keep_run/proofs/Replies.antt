@@ -1,4 +1,4 @@
--- What a call on the device says, in the words of a reply.
+-- What a call on the device says, as a reply of the machine: `replies`, `failed-answer`, `refused_same`; and `if_told`, `told_at`, `on_err` and `none_when` on optional facts.
 use Rattle.std.proofs.Common.{◌≡◌, ℕ, ◌≤◌, true, false, List, Option, None, Some, IfSome, Result, Ok, Err, OnErr, refl, ◌∙◌, ap, subst, inl, inr}
 use Rattle.keep_spec.specs.Causes.{Rose}
 use Rattle.keep_event.specs.Device.{State, Reply}

@@ -3,7 +3,6 @@ use Rattle.std.specs.Prelude.{◌≡◌, ◌≤◌, ◌+◌, ◌++◌, ℕ, zero
 use Rattle.keep_spec.specs.Causes.{Rose}
 use Rattle.keep_spec.specs.Config.{Configuration}
 use Rattle.keep_event.specs.Device.{State, Reply}
-use Rattle.keep_event.specs.Table as tables
 use Rattle.keep_event.specs.Requests.{table_line}
 use Rattle.keep_event.specs.declared.table.TableQuery.{TableQuery}
 use Rattle.keep_event.specs.declared.device.DeviceAnswer.{DeviceAnswer}
@@ -14,11 +13,12 @@ use Rattle.keep_history.specs.declared.task.Task.TheVariants as T
 use Rattle.keep_event.specs.declared.device.DeviceQuery.{DeviceQuery}
 use Rattle.keep_event.specs.declared.device.DeviceQuery.TheVariants as Q
 use Rattle.keep_volume.specs.Calls.{Device, state_of}
-use Rattle.keep_history.specs.Effects.{Scene, Made, Asking, Asked, asked, event_lines, finished, most_turns}
+use Rattle.keep_history.specs.Effects.{Made, Asking, Asked, asked, event_lines, finished, most_turns}
 use Rattle.keep_history.specs.Faults.{AgreeFrom, AreFaults}
-use Rattle.keep_history.specs.Names.{Names}
 use Rattle.keep_history.specs.Printed.{table_event_line}
 use Rattle.keep_history.specs.Tasks.{is_fault, write_end, fetch_end, fetched_none, found_by, nothing, touch_end, brought_none, brought_also, brought_end, writable, next, table_end}
+use Rattle.keep_run.specs.Scenes.{Cluster}
+use Rattle.keep_run.specs.declared.asking.Finished.{Finished}
 
 -- the answer is that of the machine, or the store failed; and the device has what this leaves
 pub record IsReply (line : State → Reply) (s : State) (state : Option State) (answer : DeviceAnswer) (before now : ℕ) : Type 0 where
@@ -31,12 +31,12 @@ pub record IsReply (line : State → Reply) (s : State) (state : Option State) (
 abbrev pub asking : Configuration → ℕ → ℕ → Task → List ℕ → Asking
 asking config actor reading task failed = record { config = config; failed = failed; actor = actor; reading = reading; task = task }
 
--- what the device has after so many events
+-- what the device has after a number of events
 abbrev pub IsLeft : List Made → State → Option State → ℕ → Type 0
 IsLeft made s state zero = state ≡ Some s
 IsLeft made s state (suc k) = (x : State) × ((option_map (λ (m : Made). m.left) (slice_get made k) ≡ Some x) × (state ≡ Some x))
 
--- some events failed, and with these f gives what was asked, printed and left, the number of events, and the end
+-- some events failed, and with these f is what was asked, printed and left, the number of events, and the end
 pub record HasAsked (n made : ℕ) (s : State) (state : Option State) (before now : ℕ) (name out_before out : List ℕ) (outcome : Outcome) (f : List ℕ → Asked) : Type 0 where
   pub failed : List ℕ
   pub asked : Asked
@@ -48,16 +48,12 @@ pub record HasAsked (n made : ℕ) (s : State) (state : Option State) (before no
   pub ended : asked.outcome ≡ Some outcome
   pub out_is : out ≡ out_before ++ event_lines name asked.made
 
--- the first events of what f gives were made, and some of them failed
+-- the first events of f were made, and some of them failed
 pub record PartAsked (n : ℕ) (s : State) (state : Option State) (before now : ℕ) (f : List ℕ → Asked) : Type 0 where
   pub made : ℕ
   pub failed : List ℕ
   pub faults : AreFaults n (n + made) before now failed
   pub is : (others : List ℕ) → AgreeFrom n (n + made) others failed → IsLeft (f others).made s state made
-
--- what stands between two lines, where the store tells
-abbrev pub scene_of : Option State → ℕ → tables.State → Names → Option Scene
-scene_of state count table names = option_map (λ s. record { count = count; state = s; table = table; names = names }) state
 
 -- how an answer to a write ends a put on the one device
 abbrev pub write_outcome : Configuration → List ℕ → List ℕ → DeviceAnswer → Outcome
@@ -94,7 +90,7 @@ single_outcome c (T.Table q) answer = O.NotFound
 abbrev pub on_writable : Configuration → DeviceQuery → Option DeviceQuery
 on_writable c q = if length (writable c) == 0 then None else Some q
 
--- the query of a task that has one, where a device is there for it
+-- the query of a task that asks once, where a device can take it
 abbrev pub single_query : Configuration → Task → Option DeviceQuery
 single_query c (T.Put token id block) = None
 single_query c (T.Get hash) = Some (Q.Fetch hash)
@@ -108,33 +104,51 @@ abbrev pub device_of : Task → ℕ
 device_of (T.Restart device) = device
 device_of _ = 0
 
+-- a task's turn: the reading at which it is finished, and the name that its lines begin with
+pub record Turn : Type 0 where
+  pub config : Configuration
+  pub reading : ℕ
+  pub name : List ℕ
+  pub task : Task
+
+abbrev pub turn : Configuration → ℕ → List ℕ → Task → Turn
+turn config reading name task = record { config = config; reading = reading; name = name; task = task }
+
+-- what a device is asked in a turn where some events fail, from an event's number, an actor and a state on
+abbrev pub asked_in : Turn → ℕ → ℕ → State → List ℕ → Asked
+asked_in t n actor s failed = finished most_turns (asking t.config actor t.reading t.task failed) n s [] (next t.config t.task [])
+
 -- a task was asked until it ended: whatever its events are numbered from, and whoever asks
-abbrev pub IsFinished : Configuration → ℕ → Task → List ℕ → Device → Device → List ℕ → List ℕ → ℕ → Outcome → Type 0
-IsFinished config reading task name old new out_before out made outcome = (n : ℕ) → (actor : ℕ) → IfSome (state_of old) (λ s.
-    HasAsked n made s (state_of new) old.faults new.faults name out_before out outcome
-    (λ failed. finished most_turns (asking config actor reading task failed) n s [] (next config task [])))
+abbrev pub IsFinished : Turn → Device → Device → List ℕ → List ℕ → Finished → Type 0
+IsFinished t old new out_before out f = (n : ℕ) → (actor : ℕ) → IfSome (state_of old) (λ s.
+    HasAsked n f.events s (state_of new) old.faults new.faults t.name out_before out f.outcome (asked_in t n actor s))
 
 -- the first of its queries were asked
-abbrev pub IsPartFinished : Configuration → ℕ → Task → Device → Device → Type 0
-IsPartFinished config reading task old new = (n : ℕ) → (actor : ℕ) → IfSome (state_of old) (λ s.
-    PartAsked n s (state_of new) old.faults new.faults
-    (λ failed. finished most_turns (asking config actor reading task failed) n s [] (next config task [])))
+abbrev pub IsPartFinished : Turn → Device → Device → Type 0
+IsPartFinished t old new = (n : ℕ) → (actor : ℕ) → IfSome (state_of old) (λ s.
+    PartAsked n s (state_of new) old.faults new.faults (asked_in t n actor s))
 
 -- THE TABLE
 -- the table was asked once: nothing is changed but the table, and the event's line is printed
-pub record IsTableAsked (config : Configuration) (reading : ℕ) (q : TableQuery) (name : List ℕ) (old new : Device) (table table' : tables.State) (out_before out : List ℕ) (made : ℕ) (outcome : Outcome) : Type 0 where
-  pub device : new ≡ old
-  pub changed : table' ≡ (table_line config reading q table).state
-  pub made_is : made ≡ 1
-  pub ended : outcome ≡ table_end config q (table_line config reading q table).answer
-  pub out_is : out ≡ out_before ++ table_event_line name (table_line config reading q table).answer
+pub record IsTableAsked (t : Turn) (q : TableQuery) (old new : Cluster) (out_before out : List ℕ) (f : Finished) : Type 0 where
+  pub device : new.device ≡ old.device
+  pub changed : new.table.state ≡ (table_line t.config t.reading q old.table.state).state
+  pub made_is : f.events ≡ 1
+  pub ended : f.outcome ≡ table_end t.config q (table_line t.config t.reading q old.table.state).answer
+  pub out_is : out ≡ out_before ++ table_event_line t.name (table_line t.config t.reading q old.table.state).answer
+
+abbrev pub done_by_kind : Turn → Task → Cluster → Cluster → List ℕ → List ℕ → Finished → Type 0
+done_by_kind t (T.Table q) old new out_before out f = IsTableAsked t q old new out_before out f
+done_by_kind t task old new out_before out f = IsFinished t old.device new.device out_before out f × (new.table.state ≡ old.table.state)
 
 -- a task was asked, at the table or at the device, until it ended
-abbrev pub IsTaskDone : Configuration → ℕ → Task → List ℕ → Device → Device → tables.State → tables.State → List ℕ → List ℕ → ℕ → Outcome → Type 0
-IsTaskDone config reading (T.Table q) name old new table table' out_before out made outcome = IsTableAsked config reading q name old new table table' out_before out made outcome
-IsTaskDone config reading task name old new table table' out_before out made outcome = IsFinished config reading task name old new out_before out made outcome × (table' ≡ table)
+abbrev pub IsTaskDone : Turn → Cluster → Cluster → List ℕ → List ℕ → Finished → Type 0
+IsTaskDone t old new out_before out f = done_by_kind t t.task old new out_before out f
+
+abbrev pub stopped_by_kind : Turn → Task → Device → Device → Type 0
+stopped_by_kind t (T.Table q) old new = new ≡ old
+stopped_by_kind t task old new = IsPartFinished t old new
 
 -- the first of a task's queries to the device were asked
-abbrev pub IsTaskStopped : Configuration → ℕ → Task → Device → Device → Type 0
-IsTaskStopped config reading (T.Table q) old new = new ≡ old
-IsTaskStopped config reading task old new = IsPartFinished config reading task old new
+abbrev pub IsTaskStopped : Turn → Device → Device → Type 0
+IsTaskStopped t old new = stopped_by_kind t t.task old new

@@ -4,7 +4,7 @@ use Rattle.keep_event.specs.Device.{State}
 use Rattle.keep_history.specs.Effects.{Scene, Made, Effect}
 use Rattle.keep_history.specs.Faults.{AgreeFrom, AreFaults}
 
--- some events failed, and with these f gives what was done
+-- some events failed, and with these f is what was done
 pub record HasEffect (from : ℕ) (scene : Option Scene) (before now : ℕ) (out_before out : List ℕ) (f : List ℕ → Option Effect) : Type 0 where
   pub failed : List ℕ
   pub effect : Effect
@@ -14,12 +14,12 @@ pub record HasEffect (from : ℕ) (scene : Option Scene) (before now : ℕ) (out
   pub scene_is : scene ≡ Some effect.scene
   pub out_is : out ≡ out_before ++ effect.text
 
--- what the device has after so many events of what f gives
+-- what the device has after a number of events of f
 abbrev pub IsAfter : Option Effect → State → Option State → ℕ → Type 0
 IsAfter f s state zero = state ≡ Some s
 IsAfter f s state (suc k) = (e : Effect) × ((x : State) × ((f ≡ Some e) × (option_map (λ (m : Made). m.left) (slice_get e.made k) ≡ Some x) × (state ≡ Some x)))
 
--- the first events of what f gives were made, and some of them failed
+-- the first events of f were made, and some of them failed
 pub record PartDone (from : ℕ) (s : State) (state : Option State) (before now : ℕ) (f : List ℕ → Option Effect) : Type 0 where
   pub made : ℕ
   pub failed : List ℕ

@@ -3,42 +3,34 @@ use Rattle.std.specs.Prelude.{◌≡◌, ◌++◌, ℕ, List, [], take, Option, 
 use Rattle.keep_spec.specs.Lines.{cut}
 use Rattle.keep_spec.specs.Config.{Configuration}
 use Rattle.keep_spec.specs.declared.status.Status.{Status}
-use Rattle.keep_spec.specs.declared.status.Status.TheVariants.{Done, BadWords, BadConfig, BadLine, WriteFault, ReadFault, NoMemory, LineTooLong, InputTooLong, NotEmpty, StoreFault, AuditFault, DoorFault, PortFault}
+use Rattle.keep_spec.specs.declared.status.Status.TheVariants.{BadLine, WriteFault, ReadFault, NoMemory, LineTooLong, InputTooLong}
+use Rattle.keep_base.specs.declared.lines.Line.{Line}
 use Rattle.keep_base.specs.declared.lines.LineError.{LineError}
 use Rattle.keep_base.specs.declared.lines.LineError.TheVariants as E
 use Rattle.keep_event.specs.Device.{State}
 use Rattle.keep_history.specs.Effects.{Scene, Effect, effect_of_line}
 use Rattle.keep_history.specs.Faults.{AgreeFrom, AreFaults}
-use Rattle.keep_history.specs.Run.{run_lines, Passes, at_start}
+use Rattle.keep_history.specs.Run.{End, run_lines, Passes, at_start}
 use Rattle.keep_history.specs.Ended.{HowEnded}
 use Rattle.keep_run.specs.Effects.{HasEffect, PartDone}
+use Rattle.keep_run.specs.Scenes.{Passage}
 
 -- one line did this
-pub record LineDone (config : Configuration) (text : List ℕ) (scene : Scene) (after : Option Scene) (before now : ℕ) : Type 0 where
+pub record LineDone (config : Configuration) (text : List ℕ) (scene : Scene) (p : Passage) : Type 0 where
   pub out : List ℕ
-  pub effect : HasEffect scene.count after before now [] out (λ failed. effect_of_line config failed scene text)
+  pub effect : HasEffect scene.count p.scene p.before p.now [] out (λ failed. effect_of_line config failed scene text)
 
--- what a line did, by its answer: the scene and the device after it
-abbrev pub IsLineDone : Configuration → List ℕ → ℕ → Scene → Option Scene → Option State → ℕ → ℕ → List ℕ → Option (List ℕ) → Result (Unit {0}) Status → Type 0
-IsLineDone config text number scene after state before now t taken (Ok done) =
-    (done : LineDone config text scene after before now) × (taken ≡ Some (t ++ done.out))
-IsLineDone config text number scene after state before now t taken (Err (BadLine n)) =
-    (n ≡ number) × ((failed : List ℕ) → effect_of_line config failed scene text ≡ None) × (state ≡ Some scene.state) × (taken ≡ Some t)
-IsLineDone config text number scene after state before now t taken (Err WriteFault) =
-    (scene' : Option Scene) × ((done : LineDone config text scene scene' before now) × ((state ≡ Some done.effect.effect.scene.state) × ((k : ℕ) × (taken ≡ Some (t ++ take k done.out)))))
-IsLineDone config text number scene after state before now t taken (Err NoMemory) =
-    PartDone scene.count scene.state state before now (λ failed. effect_of_line config failed scene text) × (taken ≡ Some t)
-IsLineDone config text number scene after state before now t taken (Err Done) = ⊥
-IsLineDone config text number scene after state before now t taken (Err BadWords) = ⊥
-IsLineDone config text number scene after state before now t taken (Err (BadConfig field)) = ⊥
-IsLineDone config text number scene after state before now t taken (Err ReadFault) = ⊥
-IsLineDone config text number scene after state before now t taken (Err (LineTooLong n)) = ⊥
-IsLineDone config text number scene after state before now t taken (Err InputTooLong) = ⊥
-IsLineDone config text number scene after state before now t taken (Err (NotEmpty device)) = ⊥
-IsLineDone config text number scene after state before now t taken (Err (StoreFault device)) = ⊥
-IsLineDone config text number scene after state before now t taken (Err (AuditFault fault)) = ⊥
-IsLineDone config text number scene after state before now t taken (Err DoorFault) = ⊥
-IsLineDone config text number scene after state before now t taken (Err PortFault) = ⊥
+-- what a line did, by its answer, where so much was written before and this after
+abbrev pub IsLineDone : Configuration → Line → Scene → Passage → List ℕ → Option (List ℕ) → Result (Unit {0}) Status → Type 0
+IsLineDone config line scene p t written (Ok done) =
+    (done : LineDone config line.text scene p) × (written ≡ Some (t ++ done.out))
+IsLineDone config line scene p t written (Err (BadLine n)) =
+    (n ≡ line.number) × ((failed : List ℕ) → effect_of_line config failed scene line.text ≡ None) × (p.state ≡ Some scene.state) × (written ≡ Some t)
+IsLineDone config line scene p t written (Err WriteFault) =
+    (done : LineDone config line.text scene p) × ((p.state ≡ Some done.effect.effect.scene.state) × ((k : ℕ) × (written ≡ Some (t ++ take k done.out))))
+IsLineDone config line scene p t written (Err NoMemory) =
+    PartDone scene.count scene.state p.state p.before p.now (λ failed. effect_of_line config failed scene line.text) × (written ≡ Some t)
+IsLineDone config line scene p t written (Err other) = ⊥
 
 abbrev pub AllTold : {A B C : Type 0} → Option A → Option B → Option C → (A → B → C → Type 0) → Type 0
 AllTold None b c P = ⊤
@@ -51,24 +43,42 @@ BothTold None b P = ⊤
 BothTold (Some a) None P = ⊤
 BothTold (Some a) (Some b) P = P a b
 
+-- where lines begin to be done: how many bytes and lines were taken before, the bytes that are left, what the device has, and what was written
+pub record Beginning : Type 0 where
+  pub taken : ℕ
+  pub number : ℕ
+  pub bytes : List ℕ
+  pub state : State
+  pub text : List ℕ
+
+abbrev pub beginning : ℕ → ℕ → List ℕ → State → List ℕ → Beginning
+beginning taken number bytes s t = record { taken = taken; number = number; bytes = bytes; state = s; text = t }
+
+-- the run of all lines from a beginning on, where some events fail
+abbrev pub lines_run : Configuration → Beginning → List ℕ → End
+lines_run config b failed = run_lines config failed b.taken b.number (at_start b.state) (cut b.bytes)
+
+abbrev pub PassesFrom : Configuration → Beginning → List ℕ → State → List ℕ → Type 0
+PassesFrom config b failed x w = Passes config failed b.taken b.number (at_start b.state) (cut b.bytes) x w
+
 -- the lines so far were done, and the rest is to come
-pub record Going (config : Configuration) (taken0 number0 : ℕ) (bytes : List ℕ) (s : State) (t : List ℕ) (taken number : ℕ) (left : Option (List ℕ)) (scene : Option Scene) (before now : ℕ) (out : Option (List ℕ)) : Type 0 where
+pub record Going (config : Configuration) (b : Beginning) (taken number : ℕ) (left : Option (List ℕ)) (p : Passage) (written : Option (List ℕ)) : Type 0 where
   pub rest : List ℕ
   pub left_is : left ≡ Some rest
   pub sofar : Effect
-  pub scene_is : scene ≡ Some sofar.scene
-  pub out_is : out ≡ Some (t ++ sofar.text)
+  pub scene_is : p.scene ≡ Some sofar.scene
+  pub out_is : written ≡ Some (b.text ++ sofar.text)
   pub failed : List ℕ
-  pub faults : AreFaults 0 sofar.scene.count before now failed
-  pub goes : (others : List ℕ) → AgreeFrom 0 sofar.scene.count others failed → run_lines config others taken0 number0 (at_start s) (cut bytes) ≡ run_lines config others taken number sofar (cut rest)
-  pub passes : (others : List ℕ) → AgreeFrom 0 sofar.scene.count others failed → (x : State) (w : List ℕ) → Passes config others taken number sofar (cut rest) x w → Passes config others taken0 number0 (at_start s) (cut bytes) x w
+  pub faults : AreFaults 0 sofar.scene.count p.before p.now failed
+  pub goes : (others : List ℕ) → AgreeFrom 0 sofar.scene.count others failed → lines_run config b others ≡ run_lines config others taken number sofar (cut rest)
+  pub passes : (others : List ℕ) → AgreeFrom 0 sofar.scene.count others failed → (x : State) (w : List ℕ) → Passes config others taken number sofar (cut rest) x w → PassesFrom config b others x w
 
 -- the run of the lines ended with this status, where some events failed
-pub record Ended (config : Configuration) (taken0 number0 : ℕ) (bytes : List ℕ) (s : State) (t : List ℕ) (status : Status) (state : Option State) (before now : ℕ) (out : Option (List ℕ)) : Type 0 where
+pub record Ended (config : Configuration) (b : Beginning) (status : Status) (p : Passage) (written : Option (List ℕ)) : Type 0 where
   pub count : ℕ
   pub failed : List ℕ
-  pub faults : AreFaults 0 count before now failed
-  pub how : HowEnded status s (run_lines config failed taken0 number0 (at_start s) (cut bytes)) (Passes config failed taken0 number0 (at_start s) (cut bytes)) state t out
+  pub faults : AreFaults 0 count p.before p.now failed
+  pub how : HowEnded status b.state (lines_run config b failed) (PassesFrom config b failed) p.state b.text written
 
 abbrev pub status_of_line : LineError → Status
 status_of_line E.ReadFault = ReadFault
@@ -76,20 +86,10 @@ status_of_line (E.LineTooLong n) = LineTooLong n
 status_of_line E.InputTooLong = InputTooLong
 status_of_line E.NoMemory = NoMemory
 
--- a line ends a run by a refusal of its own, by a fault of the sink, or for want of memory
+-- a line ends a run by BadLine, by a fault of the sink, or where memory was refused
 abbrev pub IsOfLine : Result (Unit {0}) Status → Type 0
 IsOfLine (Ok done) = ⊤
 IsOfLine (Err (BadLine n)) = ⊤
 IsOfLine (Err WriteFault) = ⊤
 IsOfLine (Err NoMemory) = ⊤
-IsOfLine (Err Done) = ⊥
-IsOfLine (Err BadWords) = ⊥
-IsOfLine (Err (BadConfig field)) = ⊥
-IsOfLine (Err ReadFault) = ⊥
-IsOfLine (Err (LineTooLong n)) = ⊥
-IsOfLine (Err InputTooLong) = ⊥
-IsOfLine (Err (NotEmpty device)) = ⊥
-IsOfLine (Err (StoreFault device)) = ⊥
-IsOfLine (Err (AuditFault fault)) = ⊥
-IsOfLine (Err DoorFault) = ⊥
-IsOfLine (Err PortFault) = ⊥
+IsOfLine (Err other) = ⊥

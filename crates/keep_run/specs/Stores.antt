@@ -4,13 +4,14 @@ use Rattle.keep_spec.specs.Config.{Configuration}
 use Rattle.keep_spec.specs.Lines.{cut}
 use Rattle.keep_spec.specs.declared.config.Field.{Field}
 use Rattle.keep_spec.specs.declared.status.Status.{Status}
-use Rattle.keep_spec.specs.declared.status.Status.TheVariants.{Done, BadWords, BadConfig, BadLine, WriteFault, ReadFault, NoMemory, LineTooLong, InputTooLong, NotEmpty, StoreFault, AuditFault, DoorFault, PortFault}
+use Rattle.keep_spec.specs.declared.status.Status.TheVariants.{BadConfig, NoMemory}
 use Rattle.keep_event.specs.Device.{State, initial}
 use Rattle.keep_event.specs.declared.names.Name.{Name}
 use Rattle.keep_event.specs.declared.names.Stored.{Stored}
 use Rattle.keep_history.specs.Faults.{AreFaults}
 use Rattle.keep_history.specs.Run.{run_opened, Passes, at_start}
 use Rattle.keep_history.specs.Ended.{HowEnded, Ran}
+use Rattle.keep_run.specs.Runs.{Beginning}
 
 -- the device that a store makes, where it tells its names and its note: its lists are empty
 abbrev pub told_state : Option (List (Name × Stored)) → Option ℕ → Option State
@@ -37,14 +38,14 @@ abbrev pub FirstKeeps : {S : Type 0} → (S → Option (List (Name × Stored))) 
 FirstKeeps held noted [] s = ⊤
 FirstKeeps held noted (x ∷ xs) s = Keeps (held x) (noted x) s
 
--- the run of the lines behind the configuration over a store, which made this device: how it ended, and what it left
-pub record StoreRan (config : Configuration) (taken : ℕ) (bytes : List ℕ) (start : State) (t : List ℕ) (status : Status) (held : Option (List (Name × Stored))) (noted : Option ℕ) (before now : ℕ) (out : Option (List ℕ)) : Type 0 where
+-- the run of the lines after the configuration over a store, which made this device: how it ended, and what it left
+pub record StoreRan (config : Configuration) (b : Beginning) (status : Status) (held : Option (List (Name × Stored))) (noted : Option ℕ) (before now : ℕ) (out : Option (List ℕ)) : Type 0 where
   pub left : State
   pub keeps : Keeps held noted left
   pub count : ℕ
   pub failed : List ℕ
   pub faults : AreFaults 0 count before now failed
-  pub how : HowEnded status start (run_opened config failed taken start (cut bytes)) (Passes config failed taken 1 (at_start start) (cut bytes)) (Some left) t out
+  pub how : HowEnded status b.state (run_opened config failed b.taken b.state (cut b.bytes)) (Passes config failed b.taken 1 (at_start b.state) (cut b.bytes)) (Some left) b.text out
 
 -- the run of the whole input over the stores: how it ended, and what it left in the first of them
 pub record StoresRan {S : Type 0} (held : S → Option (List (Name × Stored))) (noted : S → Option ℕ) (faults : S → ℕ) (old new : List S) (bytes : List ℕ) (start : State) (t : List ℕ) (status : Status) (out : Option (List ℕ)) : Type 0 where
@@ -53,23 +54,12 @@ pub record StoresRan {S : Type 0} (held : S → Option (List (Name × Stored))) 
   pub ran : Ran (length old) start bytes t status (Some left) (first_faults faults old) (first_faults faults new) out
 
 -- what ran over the first of the stores
-abbrev pub FirstRan : {S : Type 0} → (S → Option (List (Name × Stored))) → (S → Option ℕ) → (S → ℕ) → Configuration → ℕ → List S → List S → List ℕ → State → List ℕ → Status → Option (List ℕ) → Type 0
-FirstRan held noted faults config taken old [] bytes start t status out = ⊥
-FirstRan held noted faults config taken old (x ∷ xs) bytes start t status out = StoreRan config taken bytes start t status (held x) (noted x) (first_faults faults old) (faults x) out
+abbrev pub FirstRan : {S : Type 0} → (S → Option (List (Name × Stored))) → (S → Option ℕ) → (S → ℕ) → Configuration → Beginning → List S → List S → Status → Option (List ℕ) → Type 0
+FirstRan held noted faults config b old [] status out = ⊥
+FirstRan held noted faults config b old (x ∷ xs) status out = StoreRan config b status (held x) (noted x) (first_faults faults old) (faults x) out
 
 -- a first line that is no configuration, or for which memory was refused
 abbrev pub IsConfigRefusal : Status → Result Configuration Field → Type 0
 IsConfigRefusal (BadConfig field) c = c ≡ Err field
 IsConfigRefusal NoMemory c = ⊤
-IsConfigRefusal Done c = ⊥
-IsConfigRefusal BadWords c = ⊥
-IsConfigRefusal (BadLine n) c = ⊥
-IsConfigRefusal WriteFault c = ⊥
-IsConfigRefusal ReadFault c = ⊥
-IsConfigRefusal (LineTooLong n) c = ⊥
-IsConfigRefusal InputTooLong c = ⊥
-IsConfigRefusal (NotEmpty device) c = ⊥
-IsConfigRefusal (StoreFault device) c = ⊥
-IsConfigRefusal (AuditFault fault) c = ⊥
-IsConfigRefusal DoorFault c = ⊥
-IsConfigRefusal PortFault c = ⊥
+IsConfigRefusal other c = ⊥

@@ -1,8 +1,9 @@
-// A task's queries to the one device, until it ends.
-ghost use Rattle.std.specs.Prelude.{◌≡◌, ◌≤◌, ◌<◌, IfOk, OnErr, Some, false, length};
+// The queries of a task to the one device, until the task ends.
+ghost use Rattle.std.specs.Prelude.{◌≡◌, ◌≤◌, IfOk, OnErr, Some, false};
+ghost use Rattle.keep_spec.specs.Times.{IsReading};
 ghost use Rattle.keep_history.specs.Effects.{rules_of};
 ghost use Rattle.keep_history.specs.Tasks.{compare_end};
-ghost use Rattle.keep_run.specs.Asked.{IsFinished, IsPartFinished, write_outcome, fetch_outcome, touch_outcome, untrash_outcome, single_outcome, single_query, on_writable, device_of, is_put};
+ghost use Rattle.keep_run.specs.Asked.{IsFinished, IsPartFinished, write_outcome, fetch_outcome, touch_outcome, untrash_outcome, single_outcome, single_query, on_writable, device_of, is_put, turn};
 
 use crate::locator::{signed_locator, touched_locator};
 use crate::opening::is_writable;
@@ -101,7 +102,7 @@ fn untrash_outcome(answer: &DeviceAnswer) -> Outcome
     }
 }
 
-// How the one answer to a task of one query ends it.
+// How the answer to a task of one query ends it.
 fn single_outcome(
     alloc: Global,
     config: &Config,
@@ -125,9 +126,8 @@ fn single_outcome(
     }
 }
 
-// The query of a task that has one, where a device is there for it.
+// The query of a task that asks once. None for a put, a table's task, and where a writable device is wanted and there is none.
 fn single_query(config: &Config, task: &Task) -> Option<DeviceQuery>
-    requires { length config.now.devices ≡ 1 }
     ensures { result ≡ single_query config.now task.now }
 {
     match task {
@@ -155,7 +155,6 @@ fn single_query(config: &Config, task: &Task) -> Option<DeviceQuery>
 }
 
 fn where_writable(config: &Config, query: DeviceQuery) -> Option<DeviceQuery>
-    requires { length config.now.devices ≡ 1 }
     ensures { result ≡ on_writable config.now query }
 {
     if is_writable(config) {
@@ -165,7 +164,7 @@ fn where_writable(config: &Config, query: DeviceQuery) -> Option<DeviceQuery>
     }
 }
 
-// The device that a task of one query asks.
+// The device that a task asks.
 fn device_of(task: &Task) -> u32
     ensures { result ≡ device_of task.now }
 {
@@ -182,7 +181,7 @@ pub(crate) struct Finished {
     pub(crate) events: u64,
 }
 
-// Puts the block: it is compared with what the device has, and written where that doesn't end the put.
+// Compares the block with what the device has, and writes it where that doesn't end the put.
 fn finish_put<S: Store>(
     alloc: Global,
     config: &Config,
@@ -194,11 +193,10 @@ fn finish_put<S: Store>(
     block: &Block,
     out: &mut Vec<u8>,
 ) -> Result<Finished, NoMemory>
-    requires one { length config.now.devices ≡ 1 }
     requires rules { volume.old.rules ≡ rules_of config.now }
-    ensures effect { IfOk result (λ f. IsFinished config.now reading (Task.Put token.now id block.now) name.now volume.old volume.new out.old.items out.new.items f.events f.outcome) }
-    ensures part { OnErr result (IsPartFinished config.now reading (Task.Put token.now id block.now) volume.old volume.new) }
-    ensures few { IfOk result (λ f. f.events ≤ 2) }
+    ensures done { IfOk result (λ f. IsFinished (turn config.now reading name.now (Task.Put token.now id block.now)) volume.old volume.new out.old.items out.new.items f) }
+    ensures stopped { OnErr result (IsPartFinished (turn config.now reading name.now (Task.Put token.now id block.now)) volume.old volume.new) }
+    ensures two_events { IfOk result (λ f. f.events ≤ 2) }
     ensures later { volume.old.faults ≤ volume.new.faults }
     ensures rules { volume.new.rules ≡ volume.old.rules }
 {
@@ -231,11 +229,11 @@ fn finish_single<S: Store>(
     out: &mut Vec<u8>,
 ) -> Result<Finished, NoMemory>
     requires rules { volume.old.rules ≡ rules_of config.now }
-    requires reading { reading < 4000000000000000000 }
+    requires reading { IsReading reading }
     requires query { single_query config.now task.now ≡ Some query.now }
-    ensures effect { IfOk result (λ f. IsFinished config.now reading task.now name.now volume.old volume.new out.old.items out.new.items f.events f.outcome) }
-    ensures part { OnErr result (IsPartFinished config.now reading task.now volume.old volume.new) }
-    ensures few { IfOk result (λ f. f.events ≤ 2) }
+    ensures done { IfOk result (λ f. IsFinished (turn config.now reading name.now task.now) volume.old volume.new out.old.items out.new.items f) }
+    ensures stopped { OnErr result (IsPartFinished (turn config.now reading name.now task.now) volume.old volume.new) }
+    ensures two_events { IfOk result (λ f. f.events ≤ 2) }
     ensures later { volume.old.faults ≤ volume.new.faults }
     ensures rules { volume.new.rules ≡ volume.old.rules }
 {
@@ -245,7 +243,7 @@ fn finish_single<S: Store>(
     Ok(Finished { outcome, events: 1 })
 }
 
-// Asks until a task other than a put ends: once, or not at all where it wants a writable device and there is none.
+// Asks until a task other than a put ends: once, or not at all.
 fn finish_other<S: Store>(
     alloc: Global,
     config: &Config,
@@ -255,13 +253,12 @@ fn finish_other<S: Store>(
     task: &Task,
     out: &mut Vec<u8>,
 ) -> Result<Finished, NoMemory>
-    requires one { length config.now.devices ≡ 1 }
     requires rules { volume.old.rules ≡ rules_of config.now }
-    requires reading { reading < 4000000000000000000 }
+    requires reading { IsReading reading }
     requires other { is_put task.now ≡ false }
-    ensures effect { IfOk result (λ f. IsFinished config.now reading task.now name.now volume.old volume.new out.old.items out.new.items f.events f.outcome) }
-    ensures part { OnErr result (IsPartFinished config.now reading task.now volume.old volume.new) }
-    ensures few { IfOk result (λ f. f.events ≤ 2) }
+    ensures done { IfOk result (λ f. IsFinished (turn config.now reading name.now task.now) volume.old volume.new out.old.items out.new.items f) }
+    ensures stopped { OnErr result (IsPartFinished (turn config.now reading name.now task.now) volume.old volume.new) }
+    ensures two_events { IfOk result (λ f. f.events ≤ 2) }
     ensures later { volume.old.faults ≤ volume.new.faults }
     ensures rules { volume.new.rules ≡ volume.old.rules }
 {
@@ -274,7 +271,7 @@ fn finish_other<S: Store>(
     finish_single(alloc, config, volume, reading, name, task, &query, out)
 }
 
-/// Asks until the task ends.
+/// Asks the device until the task ends, and appends a line for each answer. After `NoMemory` the first of the queries were asked.
 pub(crate) fn finish<S: Store>(
     alloc: Global,
     config: &Config,
@@ -284,12 +281,11 @@ pub(crate) fn finish<S: Store>(
     task: &Task,
     out: &mut Vec<u8>,
 ) -> Result<Finished, NoMemory>
-    requires one { length config.now.devices ≡ 1 }
     requires rules { volume.old.rules ≡ rules_of config.now }
-    requires reading { reading < 4000000000000000000 }
-    ensures effect { IfOk result (λ f. IsFinished config.now reading task.now name.now volume.old volume.new out.old.items out.new.items f.events f.outcome) }
-    ensures part { OnErr result (IsPartFinished config.now reading task.now volume.old volume.new) }
-    ensures few { IfOk result (λ f. f.events ≤ 2) }
+    requires reading { IsReading reading }
+    ensures done { IfOk result (λ f. IsFinished (turn config.now reading name.now task.now) volume.old volume.new out.old.items out.new.items f) }
+    ensures stopped { OnErr result (IsPartFinished (turn config.now reading name.now task.now) volume.old volume.new) }
+    ensures two_events { IfOk result (λ f. f.events ≤ 2) }
     ensures later { volume.old.faults ≤ volume.new.faults }
     ensures rules { volume.new.rules ≡ volume.old.rules }
 {

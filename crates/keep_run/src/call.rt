@@ -1,11 +1,11 @@
-// The top call.
+// The top call: the configuration, the device over the first store, and the lines.
 ghost use Rattle.std.specs.Prelude.{◌≡◌, ◌≢◌, ◌≤◌, ◌<◌, ◌↔◌, ℕ, List, Some, None, Ok, true, false, IfOk, IfErr, length, drop, vec_len};
 ghost use Rattle.keep_spec.specs.Causes.{Rose};
 ghost use Rattle.keep_base.specs.Lines.{lines_left, lines_failed, lines_taken, lines_number, lines_source, lines_name};
 ghost use Rattle.keep_history.specs.Effects.{rules_of};
 ghost use Rattle.keep_history.specs.Run.{config_for, misfit};
 ghost use Rattle.keep_history.specs.Reads.{ReadsAreOfPuts};
-ghost use Rattle.keep_run.specs.Runs.{BothTold, AllTold};
+ghost use Rattle.keep_run.specs.Runs.{BothTold, AllTold, beginning};
 ghost use Rattle.keep_run.specs.Stores.{told_state, first_state, first_faults, StoreRan, StoresRan, FirstRan, IsConfigRefusal};
 ghost use Rattle.keep_run.specs.Words.{is_run};
 ghost use Rattle.keep_spec.specs.declared.config.Field.{Field as TheField};
@@ -33,7 +33,7 @@ fn is_run(words: &[String]) -> bool
     }
 }
 
-// What the configuration says of its one device.
+// The rules of the configuration's one device.
 fn rules_of(config: &Config) -> DeviceRules
     requires one { length config.now.devices ≡ 1 }
     requires life { config.now.trash_life ≤ 100000000 }
@@ -49,7 +49,7 @@ fn rules_of(config: &Config) -> DeviceRules
     }
 }
 
-// Opens the device over its store and runs the lines. Gives the store back.
+// Opens the device over its store, runs the lines, and returns the store.
 fn run_store<R: Source, W: Sink, S: Store>(
     alloc: Global,
     config: &Config,
@@ -62,7 +62,7 @@ fn run_store<R: Source, W: Sink, S: Store>(
     requires one { length config.now.devices ≡ 1 }
     requires life { config.now.trash_life ≤ 100000000 }
     ensures told { AllTold (lines_left lines.old) (told_state (S.held store) (S.noted store)) (W.taken sink.old) (λ bytes start t.
-        StoreRan config.now (lines_taken lines.old) bytes start t result.1 (S.held result.0) (S.noted result.0) (S.faults store) (S.faults result.0) (W.taken sink.new)) }
+        StoreRan config.now (beginning (lines_taken lines.old) 1 bytes start t) result.1 (S.held result.0) (S.noted result.0) (S.faults store) (S.faults result.0) (W.taken sink.new)) }
     ensures same_reference { lines_name lines.new ≡ lines_name lines.old }
     ensures words { result.1 ≢ Status.BadWords }
     ensures config { (field : TheField) → result.1 ≢ Status.BadConfig field }
@@ -108,7 +108,7 @@ fn run_stores<R: Source, W: Sink, S: Store>(
     requires life { config.now.trash_life ≤ 100000000 }
     requires some { 0 < vec_len stores.old }
     ensures told { AllTold (lines_left lines.old) (first_state S.held S.noted stores.old.items) (W.taken sink.old) (λ bytes start t.
-        FirstRan S.held S.noted S.faults config.now (lines_taken lines.old) stores.old.items stores.new.items bytes start t result (W.taken sink.new)) }
+        FirstRan S.held S.noted S.faults config.now (beginning (lines_taken lines.old) 1 bytes start t) stores.old.items stores.new.items result (W.taken sink.new)) }
     ensures len { vec_len stores.new ≡ vec_len stores.old }
     ensures others { drop 1 stores.new.items ≡ drop 1 stores.old.items }
     ensures same_reference { lines_name lines.new ≡ lines_name lines.old }
@@ -126,7 +126,7 @@ fn run_stores<R: Source, W: Sink, S: Store>(
     }
 }
 
-// What of the configuration can't be had with so many stores.
+// The field of the configuration that can't be had with `stores` stores, if there is one.
 fn misfit(config: &Config, stores: usize) -> Option<Field>
     ensures field { result ≡ misfit stores config.now }
     ensures one { result ≡ None → length config.now.devices ≡ 1 }
@@ -144,7 +144,7 @@ fn misfit(config: &Config, stores: usize) -> Option<Field>
     }
 }
 
-// The configuration of the first line, for so many stores.
+// Parses the configuration of the first line, for `stores` stores.
 fn read_config(alloc: Global, text: &[u8], stores: usize) -> Result<Config, Status>
     ensures ok { IfOk result (λ c. config_for stores text.now ≡ Ok c) }
     ensures one { IfOk result (λ c. length c.devices ≡ 1) }
@@ -163,7 +163,7 @@ fn read_config(alloc: Global, text: &[u8], stores: usize) -> Result<Config, Stat
     Ok(config)
 }
 
-// Runs the input that the lines are of.
+// Runs an input from its first line on.
 fn run_input<R: Source, W: Sink, S: Store>(
     alloc: Global,
     lines: &mut Lines<'_, R>,
@@ -195,9 +195,14 @@ fn run_input<R: Source, W: Sink, S: Store>(
     }
 }
 
-/// Runs a script: the words are `run` alone, the first line of the source is the configuration, each further line is a script line or empty.
-/// The first store is the cluster's one device. As many stores come back, in their order. What the run of the bytes is, line after line, stands in the
-/// definitions of runs; numbers of lines count from 1, readings are nanoseconds since 1970. The form of script and output is this project's own.
+/// Runs a script. The words are `run` alone; the first line of the source is the configuration, and each further line is a script line or empty.
+/// The first store makes the cluster's one device and must hold nothing; as many stores come back, in their order. Lines are counted from 1, readings are in
+/// nanoseconds since 1970, bounds of lines and inputs in bytes.
+///
+/// The status says how the run ended. `BadWords`, `BadConfig`, `NotEmpty` and `StoreFault` come before the first script line, and leave the stores as they
+/// were; `BadLine`, `LineTooLong` and `InputTooLong` leave what the lines before left, with their whole text written; `ReadFault`, `WriteFault` and
+/// `NoMemory` leave what stood at some moment between two events, and after `WriteFault` a beginning of the text of that moment was written. A fault comes
+/// only where the failing object's count rose. The form of script and output is this project's own.
 pub fn run_call<R: Source, W: Sink, S: Store>(
     alloc: Global,
     words: &[String],

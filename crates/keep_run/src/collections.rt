@@ -1,114 +1,25 @@
-// Collections: their UUIDs, the query of a task to the table, and how its answer ends the task.
-ghost use Rattle.std.specs.Prelude.{◌≡◌, ◌≤◌, ◌<◌, ◌^◌, ◌++◌, IfOk, OnOk, OnErr, length, replicate};
+// The query of a task to the table, how its answer ends the task, and the one call that finishes any task.
+ghost use Rattle.std.specs.Prelude.{◌≡◌, ◌≤◌, ◌^◌, ◌++◌, IfOk, OnErr};
+ghost use Rattle.keep_spec.specs.Times.{IsReading};
 ghost use Rattle.keep_event.specs.Requests.{rules_of as table_rules_of, table_line};
 ghost use Rattle.keep_history.specs.Effects.{rules_of};
 ghost use Rattle.keep_history.specs.Printed.{table_event_line};
-ghost use Rattle.keep_history.specs.Tasks.{collection_number, collection_uuid, padded, end_as_answered, kind_of_collections, signed_text, table_end, token_of_query};
+ghost use Rattle.keep_history.specs.Tasks.{end_as_answered, table_end, token_of_query};
 ghost use Rattle.keep_collections.specs.Verdicts.{IsAsked};
-ghost use Rattle.keep_run.specs.Asked.{IsTableAsked, IsTaskDone, IsTaskStopped};
-ghost use Rattle.keep_run.specs.Commands.{AreFew, RisesByOne};
+ghost use Rattle.keep_run.specs.Asked.{IsTaskDone, IsTaskStopped, turn};
+ghost use Rattle.keep_run.specs.Scenes.{cluster, CountersUpTo, RisesByOne};
 ghost use Rattle.keep_run.specs.Askable.{IsAskable};
 
 use crate::asking::{Finished, finish};
-use keep_collections::{Table, answer};
+use keep_collections::{Table, answer, collection_uuid, signed_row};
 use keep_config::Config;
 use keep_event::{TableAnswer, TableQuery};
 use keep_history::{Outcome, Task};
-use keep_manifest::BadManifest;
 use keep_script::push_table_event_line;
-use keep_sign::sign_manifest;
-use keep_spec::{Bytes, NoMemory, read_number};
+use keep_spec::NoMemory;
 use keep_store::Store;
 use keep_volume::Volume;
 use std::alloc::Global;
-
-/// How many digits the number of a collection has in its UUID.
-const NUMBER_DIGITS: usize = 15;
-
-// The cluster's name and the kind of collections.
-fn uuid_front(alloc: Global, config: &Config) -> Result<Vec<u8>, NoMemory>
-    ensures { IfOk result (λ v. v.items ≡ config.now.cluster ++ kind_of_collections) }
-{
-    let mut out = Vec::from_slice(alloc, config.cluster.as_slice())?;
-    out.extend_from_slice(b"-4zz18-")?;
-    Ok(out)
-}
-
-#[tactic(auto, using(crate::proofs::Rows::take_zeros))]
-fn push_zeros(out: &mut Vec<u8>, count: usize) -> Result<(), NoMemory>
-    requires { count ≤ NUMBER_DIGITS }
-    ensures { OnOk result (out.new.items ≡ out.old.items ++ replicate count 48) }
-{
-    let zeros = [b'0'; NUMBER_DIGITS];
-    out.extend_from_slice(&zeros[..count])?;
-    Ok(())
-}
-
-fn push_padded(alloc: Global, out: &mut Vec<u8>, number: u64) -> Result<(), NoMemory>
-    ensures { OnOk result (out.new.items ≡ out.old.items ++ padded number) }
-{
-    let digits = number.to_string(alloc)?;
-    push_zeros(out, NUMBER_DIGITS.saturating_sub(digits.len()))?;
-    out.extend_from_slice(digits.as_bytes())?;
-    Ok(())
-}
-
-/// The UUID of a collection by its number.
-#[tactic(auto, unfolding(keep_history::specs::Tasks::collection_uuid))]
-pub(crate) fn collection_uuid(
-    alloc: Global,
-    config: &Config,
-    number: u64,
-) -> Result<Bytes, NoMemory>
-    ensures { IfOk result (λ b. b ≡ collection_uuid config.now number) }
-{
-    let mut out = uuid_front(alloc, config)?;
-    push_padded(alloc, &mut out, number)?;
-    Ok(Bytes::of(out))
-}
-
-/// The number of a collection by its UUID, 0 where the text is no UUID of the cluster's collections.
-#[tactic(auto, unfolding(keep_history::specs::Tasks::collection_number))]
-pub(crate) fn collection_number(
-    alloc: Global,
-    config: &Config,
-    text: &[u8],
-) -> Result<u64, NoMemory>
-    ensures { IfOk result (λ n. n ≡ collection_number config.now text.now) }
-{
-    let front = uuid_front(alloc, config)?;
-    if text.len() != 27 {
-        return Ok(0);
-    }
-    if &text[..12] != front.as_slice() {
-        return Ok(0);
-    }
-    match read_number(&text[12..]) {
-        Some(number) => Ok(number),
-        None => Ok(0),
-    }
-}
-
-// A row's text with each locator signed for the token, where it has an expiry.
-fn signed_text(
-    alloc: Global,
-    config: &Config,
-    token: &[u8],
-    expiry: Option<u32>,
-    text: Bytes,
-) -> Result<Bytes, NoMemory>
-    ensures { IfOk result (λ b. b ≡ signed_text config.now token.now expiry text) }
-{
-    let Some(expiry) = expiry else {
-        return Ok(text);
-    };
-    let secret = config.secret.as_slice();
-    match sign_manifest(alloc, text.as_slice(), token, expiry, config.ttl, secret) {
-        Ok(signed) => Ok(signed),
-        Err(BadManifest::NoMemory) => Err(NoMemory),
-        Err(BadManifest::Refused(_)) => Ok(text),
-    }
-}
 
 fn token_of_query(query: &TableQuery) -> &[u8]
     ensures { result.now ≡ token_of_query query.now }
@@ -187,13 +98,13 @@ fn table_outcome(
             version,
             want,
             trash_at,
-            text: signed_text(alloc, config, token_of_query(query), expiry, text)?,
+            text: signed_row(alloc, config, token_of_query(query), expiry, text)?,
         }),
         _ => Ok(end_as_answered(answer)),
     }
 }
 
-// Asks the table, once.
+// Asks the table once.
 fn ask_table(
     alloc: Global,
     config: &Config,
@@ -204,8 +115,8 @@ fn ask_table(
     out: &mut Vec<u8>,
 ) -> Result<Outcome, NoMemory>
     requires rules { table.old.rules ≡ table_rules_of config.now }
-    requires few { AreFew (2 ^ 40) table.old.state }
-    requires reading { reading < 4000000000000000000 }
+    requires room { CountersUpTo (2 ^ 40) table.old.state }
+    requires reading { IsReading reading }
     requires asked { IsAsked query.now }
     ensures changed { IfOk result (λ _. table.new.state ≡ (table_line config.now reading query.now table.old.state).state) }
     ensures ended { IfOk result (λ o. o ≡ table_end config.now query.now (table_line config.now reading query.now table.old.state).answer) }
@@ -217,7 +128,7 @@ fn ask_table(
     table_outcome(alloc, config, query, answer)
 }
 
-/// Asks at the table or at the device until the task ends.
+/// Asks the table or the device until the task ends, and appends a line for each answer. After `NoMemory` the first of the queries were asked.
 pub(crate) fn ask_task<S: Store>(
     alloc: Global,
     config: &Config,
@@ -228,19 +139,18 @@ pub(crate) fn ask_task<S: Store>(
     task: &Task,
     out: &mut Vec<u8>,
 ) -> Result<Finished, NoMemory>
-    requires one { length config.now.devices ≡ 1 }
     requires rules { volume.old.rules ≡ rules_of config.now }
     requires table_rules { table.old.rules ≡ table_rules_of config.now }
-    requires table_few { AreFew (2 ^ 40) table.old.state }
-    requires reading { reading < 4000000000000000000 }
+    requires room { CountersUpTo (2 ^ 40) table.old.state }
+    requires reading { IsReading reading }
     requires asked { IsAskable task.now }
-    ensures effect { IfOk result (λ f. IsTaskDone config.now reading task.now name.now volume.old volume.new table.old.state table.new.state out.old.items out.new.items f.events f.outcome) }
-    ensures part { OnErr result (IsTaskStopped config.now reading task.now volume.old volume.new) }
-    ensures few { IfOk result (λ f. f.events ≤ 2) }
+    ensures done { IfOk result (λ f. IsTaskDone (turn config.now reading name.now task.now) (cluster volume.old table.old) (cluster volume.new table.new) out.old.items out.new.items f) }
+    ensures stopped { OnErr result (IsTaskStopped (turn config.now reading name.now task.now) volume.old volume.new) }
+    ensures two_events { IfOk result (λ f. f.events ≤ 2) }
     ensures later { volume.old.faults ≤ volume.new.faults }
     ensures rules { volume.new.rules ≡ volume.old.rules }
     ensures table_rules { table.new.rules ≡ table.old.rules }
-    ensures table_few { IfOk result (λ _. RisesByOne table.old.state table.new.state) }
+    ensures table_rises { IfOk result (λ _. RisesByOne table.old.state table.new.state) }
 {
     match task {
         Task::Table { query } => {

@@ -1,4 +1,4 @@
-//! The top call.
+//! The top call: a script is read, its lines are done on the device and the table, and their text is written.
 #![tactic(auto)]
 
 mod asking;

@@ -1,9 +1,9 @@
-// What an opening makes of itself: a task, or its end at once.
-ghost use Rattle.std.specs.Prelude.{◌≡◌, ℕ, IfOk, length, [], ◌∷◌, if◌then◌else◌};
+// What an opening makes: a task, or an end at once.
+ghost use Rattle.std.specs.Prelude.{◌≡◌, ℕ, IfOk, [], ◌∷◌, if◌then◌else◌};
 ghost use Rattle.keep_history.specs.Tasks.{opened, put_opened, get_opened, touch_opened, untrash_opened, where_writable, permitted_block, asks_table, by_verdict, has_other_digest, writable};
 ghost use Rattle.keep_run.specs.Askable.{AsksTable};
 
-use crate::collections::collection_number;
+use keep_collections::collection_number;
 use keep_config::Config;
 use keep_event::{Block, TableQuery};
 use keep_history::{Opening, Outcome, Task};
@@ -12,12 +12,14 @@ use keep_sign::verify;
 use keep_spec::{Bytes, Digest, NoMemory, TokenId, Unverified, Verified};
 use std::alloc::Global;
 
-// Whether the one device takes no change.
+// Whether the server's one device takes changes.
 pub(crate) fn is_writable(config: &Config) -> bool
-    requires { length config.now.devices ≡ 1 }
     ensures { writable config.now ≡ (if result then 0 ∷ [] else []) }
 {
-    !config.device(0).read_only
+    match config.devices.as_slice().get(0) {
+        Some(device) => !device.read_only,
+        None => true,
+    }
 }
 
 fn has_other_digest(block: &Block, digest: Option<Digest>) -> bool
@@ -37,7 +39,6 @@ fn open_put(
     bytes: Bytes,
     digest: Option<Digest>,
 ) -> Result<Result<Task, Outcome>, NoMemory>
-    requires { length config.now.devices ≡ 1 }
     ensures { IfOk result (λ r. r ≡ put_opened config.now id token bytes digest) }
 {
     let Ok(block) = Block::of(bytes) else {
@@ -65,7 +66,7 @@ fn by_verdict(verdict: Result<Verified, Unverified>) -> Result<Digest, Outcome>
     ensures { result ≡ by_verdict verdict }
 {
     match verdict {
-        Ok(triple) => Ok(triple.digest),
+        Ok(verified) => Ok(verified.digest),
         Err(Unverified::Missing) => Err(Outcome::Forbidden),
         Err(Unverified::Expired { expiry }) => Err(Outcome::Expired { expiry }),
         Err(Unverified::Invalid) => Err(Outcome::Forbidden),
@@ -119,7 +120,6 @@ fn open_get(
 }
 
 fn where_writable(config: &Config, task: Task) -> Result<Task, Outcome>
-    requires { length config.now.devices ≡ 1 }
     ensures { result ≡ where_writable config.now task }
 {
     if is_writable(config) {
@@ -137,7 +137,6 @@ fn open_touch(
     text: &Bytes,
     reading: u64,
 ) -> Result<Result<Task, Outcome>, NoMemory>
-    requires { length config.now.devices ≡ 1 }
     ensures { IfOk result (λ r. r ≡ touch_opened config.now id token text.now reading) }
 {
     let locator = match Locator::read(text.as_slice()) {
@@ -167,7 +166,6 @@ fn open_touch(
 }
 
 fn open_untrash(config: &Config, id: TokenId, digest: Digest) -> Result<Task, Outcome>
-    requires { length config.now.devices ≡ 1 }
     ensures { result ≡ untrash_opened config.now id digest }
 {
     if id.number == 0 {
@@ -179,51 +177,51 @@ fn open_untrash(config: &Config, id: TokenId, digest: Digest) -> Result<Task, Ou
 
 // The query of an opening that asks the table.
 #[tactic(auto, unfolding(keep_history::specs::Tasks::opened))]
-fn table_query(alloc: Global, config: &Config, opening: Opening) -> Result<TableQuery, NoMemory>
+fn table_query(config: &Config, opening: Opening) -> TableQuery
     requires { AsksTable opening }
-    ensures { IfOk result (λ query. (reading : ℕ) → opened config.now opening reading ≡ asks_table query) }
+    ensures { (reading : ℕ) → opened config.now opening reading ≡ asks_table result }
 {
     match opening {
-        Opening::Save { request } => Ok(TableQuery::Save { request }),
+        Opening::Save { request } => TableQuery::Save { request },
         Opening::Update {
             collection,
             preserve,
             request,
-        } => Ok(TableQuery::Update {
-            collection: collection_number(alloc, config, collection.as_slice())?,
+        } => TableQuery::Update {
+            collection: collection_number(config, collection.as_slice()),
             preserve,
             request,
-        }),
+        },
         Opening::Read {
             token,
             collection,
             version,
-        } => Ok(TableQuery::Read {
+        } => TableQuery::Read {
             token,
-            collection: collection_number(alloc, config, collection.as_slice())?,
+            collection: collection_number(config, collection.as_slice()),
             version,
-        }),
+        },
         Opening::Trash {
             token,
             collection,
             trash_at,
             delete_at,
-        } => Ok(TableQuery::SetTrash {
+        } => TableQuery::SetTrash {
             token,
-            collection: collection_number(alloc, config, collection.as_slice())?,
+            collection: collection_number(config, collection.as_slice()),
             trash_at,
             delete_at,
-        }),
-        Opening::Restore { token, collection } => Ok(TableQuery::Restore {
+        },
+        Opening::Restore { token, collection } => TableQuery::Restore {
             token,
-            collection: collection_number(alloc, config, collection.as_slice())?,
-        }),
-        Opening::Sweep => Ok(TableQuery::Sweep),
+            collection: collection_number(config, collection.as_slice()),
+        },
+        Opening::Sweep => TableQuery::Sweep,
         _ => unreachable!(),
     }
 }
 
-/// What an opening makes of itself at a reading: a task, or its end at once.
+/// The task that an opening makes at a reading (nanoseconds since 1970), or its end at once. Nothing is asked.
 #[tactic(auto, unfolding(keep_history::specs::Tasks::opened))]
 pub(crate) fn opened(
     alloc: Global,
@@ -231,7 +229,6 @@ pub(crate) fn opened(
     opening: Opening,
     reading: u64,
 ) -> Result<Result<Task, Outcome>, NoMemory>
-    requires { length config.now.devices ≡ 1 }
     ensures { IfOk result (λ r. r ≡ opened config.now opening reading) }
 {
     match opening {
@@ -270,7 +267,7 @@ pub(crate) fn opened(
         },
         Opening::Restart { device } => Ok(Ok(Task::Restart { device })),
         _ => Ok(Ok(Task::Table {
-            query: table_query(alloc, config, opening)?,
+            query: table_query(config, opening),
         })),
     }
 }

@@ -1,15 +1,10 @@
-// The lines of a run.
-ghost use Rattle.std.specs.Prelude.{◌≡◌, ◌≢◌, ◌≤◌, ◌<◌, ◌+◌, ◌^◌, IfOk, Ok, Err, None, [], length, ℕ};
+// The script lines of a run, one after another.
+ghost use Rattle.std.specs.Prelude.{◌≡◌, ◌≢◌, ◌≤◌, IfOk, Err, None, ℕ};
 ghost use Rattle.keep_spec.specs.Causes.{Rose};
 ghost use Rattle.keep_base.specs.Lines.{lines_left, lines_failed, lines_taken, lines_number, lines_source, lines_name};
 ghost use Rattle.keep_volume.specs.Calls.{state_of};
-ghost use Rattle.keep_event.specs.Table as tables;
-ghost use Rattle.keep_event.specs.Requests.{rules_of as table_rules_of};
-ghost use Rattle.keep_history.specs.Effects.{rules_of};
-ghost use Rattle.keep_run.specs.Askable.{AreAskable};
-ghost use Rattle.keep_run.specs.Commands.{AreFew, RisesByOne};
-ghost use Rattle.keep_run.specs.Asked.{scene_of};
-ghost use Rattle.keep_run.specs.Runs.{IsLineDone, BothTold, AllTold, Ended, status_of_line, IsOfLine};
+ghost use Rattle.keep_run.specs.Runs.{IsLineDone, BothTold, AllTold, Ended, beginning, status_of_line, IsOfLine};
+ghost use Rattle.keep_run.specs.Scenes.{scene_of, IsStageOf, HasRoom, GrowsByLine, IsFresh, passage};
 ghost use Rattle.keep_spec.specs.declared.config.Field.{Field as TheField};
 
 use crate::stage::{Stage, do_command};
@@ -20,7 +15,7 @@ use keep_spec::Status;
 use keep_store::Store;
 use std::alloc::Global;
 
-// Does one line. Its text is written at once, in one piece.
+// Does one line, and writes its text in one piece. An empty line does nothing.
 fn run_line<W: Sink, S: Store>(
     alloc: Global,
     config: &Config,
@@ -28,23 +23,13 @@ fn run_line<W: Sink, S: Store>(
     stage: &mut Stage<S>,
     sink: &mut W,
 ) -> Result<(), Status>
-    requires one { length config.now.devices ≡ 1 }
-    requires rules { stage.old.volume.rules ≡ rules_of config.now }
-    requires events { stage.old.events < 2 ^ 62 }
-    requires few { length stage.old.names.entries < 2 ^ 32 }
-    requires table_rules { stage.old.table.rules ≡ table_rules_of config.now }
-    requires table_few { AreFew (2 ^ 40) stage.old.table.state }
-    requires askable { AreAskable stage.old.names.entries }
-    ensures askable { IfOk result (λ _. AreAskable stage.new.names.entries) }
-    ensures told { BothTold (scene_of (state_of stage.old.volume) stage.old.events stage.old.table.state stage.old.names.entries) (W.taken sink.old) (λ scene t.
-        IsLineDone config.now line.now.text line.now.number scene (scene_of (state_of stage.new.volume) stage.new.events stage.new.table.state stage.new.names.entries) (state_of stage.new.volume)
-        stage.old.volume.faults stage.new.volume.faults t (W.taken sink.new) result) }
+    requires sound { IsStageOf config.now stage.old }
+    requires room { HasRoom stage.old }
+    ensures told { BothTold (scene_of stage.old) (W.taken sink.old) (λ scene t.
+        IsLineDone config.now line.now scene (passage stage.old stage.new) t (W.taken sink.new) result) }
     ensures of_line { IsOfLine result }
-    ensures rules { stage.new.volume.rules ≡ stage.old.volume.rules }
-    ensures table_rules { stage.new.table.rules ≡ stage.old.table.rules }
-    ensures table_few { IfOk result (λ _. RisesByOne stage.old.table.state stage.new.table.state) }
-    ensures events { IfOk result (λ _. stage.new.events ≤ stage.old.events + 2) }
-    ensures few { IfOk result (λ _. length stage.new.names.entries ≤ length stage.old.names.entries + 2) }
+    ensures sound { IfOk result (λ _. IsStageOf config.now stage.new) }
+    ensures grows { IfOk result (λ _. GrowsByLine stage.old stage.new) }
     ensures store_later { stage.old.volume.faults ≤ stage.new.volume.faults }
     ensures sink_later { W.faults sink.old ≤ W.faults sink.new }
     ensures cause { result ≡ Err Status.WriteFault → Rose (W.faults sink.old) (W.faults sink.new) }
@@ -77,7 +62,7 @@ fn run_line<W: Sink, S: Store>(
     }
 }
 
-/// The status of a run that the reading of its lines ended.
+/// The status of a run whose lines ended with an error.
 pub(crate) fn status_of(error: LineError) -> Status
     ensures { result ≡ status_of_line error }
 {
@@ -89,7 +74,7 @@ pub(crate) fn status_of(error: LineError) -> Status
     }
 }
 
-/// Does the lines one after another.
+/// Does the lines one after another, until their end or the first that can't be done.
 pub(crate) fn run_lines<R: Source, W: Sink, S: Store>(
     alloc: Global,
     config: &Config,
@@ -98,14 +83,10 @@ pub(crate) fn run_lines<R: Source, W: Sink, S: Store>(
     sink: &mut W,
 ) -> Status
     requires fine { lines_failed lines.old ≡ None }
-    requires one { length config.now.devices ≡ 1 }
-    requires rules { stage.old.volume.rules ≡ rules_of config.now }
-    requires events { stage.old.events ≡ 0 }
-    requires table { stage.old.table.state ≡ tables.empty }
-    requires table_rules { stage.old.table.rules ≡ table_rules_of config.now }
-    requires names { stage.old.names.entries ≡ [] }
+    requires sound { IsStageOf config.now stage.old }
+    requires fresh { IsFresh stage.old }
     ensures told { AllTold (lines_left lines.old) (state_of stage.old.volume) (W.taken sink.old) (λ bytes s t.
-        Ended config.now (lines_taken lines.old) (lines_number lines.old) bytes s t result (state_of stage.new.volume) stage.old.volume.faults stage.new.volume.faults (W.taken sink.new)) }
+        Ended config.now (beginning (lines_taken lines.old) (lines_number lines.old) bytes s t) result (passage stage.old stage.new) (W.taken sink.new)) }
     ensures same_reference { lines_name lines.new ≡ lines_name lines.old }
     ensures source_later { R.faults (lines_source lines.old) ≤ R.faults (lines_source lines.new) }
     ensures store_later { stage.old.volume.faults ≤ stage.new.volume.faults }

@@ -1,11 +1,11 @@
-// What a command does.
-ghost use Rattle.std.specs.Prelude.{◌≡◌, ◌≤◌, ◌<◌, ◌+◌, ◌^◌, Ok, true, false, OnOk, OnErr, IfOk, length};
-ghost use Rattle.keep_event.specs.Requests.{rules_of as table_rules_of};
-ghost use Rattle.keep_history.specs.Effects.{rules_of, state_after};
+// What a command does to the stage of a run.
+ghost use Rattle.std.specs.Prelude.{◌≡◌, ◌≤◌, ◌+◌, Ok, true, false, OnOk, OnErr, IfOk, length};
+ghost use Rattle.keep_spec.specs.Times.{IsReading};
+ghost use Rattle.keep_history.specs.Effects.{state_after};
 ghost use Rattle.keep_history.specs.Names.{state_of_name, with_name};
 ghost use Rattle.keep_history.specs.Script.{reading_of, HasTimes, HasCommandTimes};
-ghost use Rattle.keep_run.specs.Askable.{AreAskable};
-ghost use Rattle.keep_run.specs.Commands.{AreFew, DoesCommand, RefusesCommand, RisesByOne, StopsCommand, open_task_of};
+ghost use Rattle.keep_run.specs.Commands.{DoesCommand, RefusesCommand, StopsCommand, open_task_of};
+ghost use Rattle.keep_run.specs.Scenes.{IsStageOf, HasRoom, GrowsByLine};
 
 use crate::asking::Finished;
 use crate::collections::ask_task;
@@ -20,7 +20,7 @@ use keep_volume::Volume;
 use std::alloc::Global;
 use std::collections::BTreeMap;
 
-/// What stands between two lines: the device, the table of collections, what became of each name, and how many events there were.
+/// What stands between two lines of a run: the device, the table of collections, what has become of each name, and how many events were made.
 #[derive(Drop)]
 pub(crate) struct Stage<S: Store> {
     pub(crate) volume: Volume<S>,
@@ -54,16 +54,16 @@ fn open_task_of(state: Option<TaskState>) -> Option<Task>
     }
 }
 
-// Gives a name what has become of its task, and answers what had become of it.
+// Sets what has become of a name's task, and returns what had become of it before.
 fn set_name(
     names: &mut BTreeMap<Bytes, TaskState>,
     name: Bytes,
     state: TaskState,
 ) -> Result<Option<TaskState>, NoMemory>
-    ensures old { IfOk result (λ old. old ≡ state_of_name name names.old.entries) }
-    ensures new { OnOk result (names.new.entries ≡ with_name name state names.old.entries) }
-    ensures err { OnErr result (names.new.entries ≡ names.old.entries) }
-    ensures few { length names.new.entries ≤ length names.old.entries + 1 }
+    ensures previous { IfOk result (λ old. old ≡ state_of_name name names.old.entries) }
+    ensures set { OnOk result (names.new.entries ≡ with_name name state names.old.entries) }
+    ensures unchanged { OnErr result (names.new.entries ≡ names.old.entries) }
+    ensures one_more { length names.new.entries ≤ length names.old.entries + 1 }
 {
     match names.insert(name, state) {
         Ok(old) => Ok(old),
@@ -81,17 +81,14 @@ fn open_task<S: Store>(
     opening: Opening,
     out: &mut Vec<u8>,
 ) -> Result<(), NoMemory>
-    requires one { length config.now.devices ≡ 1 }
-    requires few { length stage.old.names.entries < 2 ^ 32 }
+    requires sound { IsStageOf config.now stage.old }
+    requires room { HasRoom stage.old }
     requires times { HasTimes opening }
-    requires askable { AreAskable stage.old.names.entries }
-    ensures askable { IfOk result (λ _. AreAskable stage.new.names.entries) }
-    ensures done { OnOk result (DoesCommand config.now (Command.Open name reading opening) stage.old.volume stage.old.events stage.old.table.state stage.old.names.entries stage.new.volume stage.new.events stage.new.table.state stage.new.names.entries out.old.items out.new.items) }
-    ensures stopped { OnErr result (StopsCommand config.now (Command.Open name reading opening) stage.old.volume stage.old.events stage.old.table.state stage.old.names.entries stage.new.volume) }
-    ensures volume { stage.new.volume ≡ stage.old.volume }
-    ensures table { stage.new.table ≡ stage.old.table }
-    ensures events { stage.new.events ≡ stage.old.events }
-    ensures few { length stage.new.names.entries ≤ length stage.old.names.entries + 1 }
+    ensures done { OnOk result (DoesCommand config.now (Command.Open name reading opening) stage.old stage.new out.old.items out.new.items) }
+    ensures stopped { OnErr result (StopsCommand config.now (Command.Open name reading opening) stage.old stage.new.volume) }
+    ensures sound { IfOk result (λ _. IsStageOf config.now stage.new) }
+    ensures grows { IfOk result (λ _. GrowsByLine stage.old stage.new) }
+    ensures later { stage.old.volume.faults ≤ stage.new.volume.faults }
 {
     let actor = stage.names.len() as u32;
     let task = match opened(alloc, config, opening, reading)? {
@@ -106,7 +103,7 @@ fn open_task<S: Store>(
     Ok(())
 }
 
-// Asks until the task of a name ends. A line asks for it only where the task is open.
+// Asks until the task of a name ends. False: the name has no open task, and nothing was asked.
 fn finish_task<S: Store>(
     alloc: Global,
     config: &Config,
@@ -115,23 +112,15 @@ fn finish_task<S: Store>(
     reading: u64,
     out: &mut Vec<u8>,
 ) -> Result<bool, NoMemory>
-    requires one { length config.now.devices ≡ 1 }
-    requires rules { stage.old.volume.rules ≡ rules_of config.now }
-    requires events { stage.old.events < 2 ^ 62 }
-    requires reading { reading < 4000000000000000000 }
-    requires table_rules { stage.old.table.rules ≡ table_rules_of config.now }
-    requires table_few { AreFew (2 ^ 40) stage.old.table.state }
-    requires askable { AreAskable stage.old.names.entries }
-    ensures askable { IfOk result (λ _. AreAskable stage.new.names.entries) }
-    ensures done { result ≡ Ok true → DoesCommand config.now (Command.Finish name reading) stage.old.volume stage.old.events stage.old.table.state stage.old.names.entries stage.new.volume stage.new.events stage.new.table.state stage.new.names.entries out.old.items out.new.items }
-    ensures refused { result ≡ Ok false → RefusesCommand config.now (Command.Finish name reading) stage.old.volume stage.old.events stage.old.table.state stage.old.names.entries stage.new.volume }
-    ensures stopped { OnErr result (StopsCommand config.now (Command.Finish name reading) stage.old.volume stage.old.events stage.old.table.state stage.old.names.entries stage.new.volume) }
+    requires sound { IsStageOf config.now stage.old }
+    requires room { HasRoom stage.old }
+    requires reading { IsReading reading }
+    ensures done { result ≡ Ok true → DoesCommand config.now (Command.Finish name reading) stage.old stage.new out.old.items out.new.items }
+    ensures refused { result ≡ Ok false → RefusesCommand config.now (Command.Finish name reading) stage.old stage.new.volume }
+    ensures stopped { OnErr result (StopsCommand config.now (Command.Finish name reading) stage.old stage.new.volume) }
+    ensures sound { IfOk result (λ _. IsStageOf config.now stage.new) }
+    ensures grows { IfOk result (λ _. GrowsByLine stage.old stage.new) }
     ensures later { stage.old.volume.faults ≤ stage.new.volume.faults }
-    ensures rules { stage.new.volume.rules ≡ stage.old.volume.rules }
-    ensures table_rules { stage.new.table.rules ≡ stage.old.table.rules }
-    ensures table_few { IfOk result (λ _. RisesByOne stage.old.table.state stage.new.table.state) }
-    ensures events { IfOk result (λ _. stage.new.events ≤ stage.old.events + 2) }
-    ensures few { IfOk result (λ _. length stage.new.names.entries ≤ length stage.old.names.entries + 2) }
 {
     let state = set_name(&mut stage.names, name.duplicate(alloc)?, TaskState::Ended)?;
     let Some(task) = open_task_of(state) else {
@@ -153,7 +142,8 @@ fn finish_task<S: Store>(
     Ok(true)
 }
 
-/// Does a command. False: it can't be done beside these names, and nothing was.
+/// Does a command, and appends its text to `out`. False: it can't be done with these names, and nothing was. After `NoMemory` the first of its events
+/// were made, and part of the text may stand in `out`.
 pub(crate) fn do_command<S: Store>(
     alloc: Global,
     config: &Config,
@@ -161,25 +151,16 @@ pub(crate) fn do_command<S: Store>(
     command: Command,
     out: &mut Vec<u8>,
 ) -> Result<bool, NoMemory>
-    requires one { length config.now.devices ≡ 1 }
-    requires rules { stage.old.volume.rules ≡ rules_of config.now }
-    requires events { stage.old.events < 2 ^ 62 }
-    requires few { length stage.old.names.entries < 2 ^ 32 }
-    requires reading { reading_of command < 4000000000000000000 }
-    requires table_rules { stage.old.table.rules ≡ table_rules_of config.now }
-    requires table_few { AreFew (2 ^ 40) stage.old.table.state }
+    requires sound { IsStageOf config.now stage.old }
+    requires room { HasRoom stage.old }
+    requires reading { IsReading (reading_of command) }
     requires times { HasCommandTimes command }
-    requires askable { AreAskable stage.old.names.entries }
-    ensures askable { IfOk result (λ _. AreAskable stage.new.names.entries) }
-    ensures done { result ≡ Ok true → DoesCommand config.now command stage.old.volume stage.old.events stage.old.table.state stage.old.names.entries stage.new.volume stage.new.events stage.new.table.state stage.new.names.entries out.old.items out.new.items }
-    ensures refused { result ≡ Ok false → RefusesCommand config.now command stage.old.volume stage.old.events stage.old.table.state stage.old.names.entries stage.new.volume }
-    ensures stopped { OnErr result (StopsCommand config.now command stage.old.volume stage.old.events stage.old.table.state stage.old.names.entries stage.new.volume) }
+    ensures done { result ≡ Ok true → DoesCommand config.now command stage.old stage.new out.old.items out.new.items }
+    ensures refused { result ≡ Ok false → RefusesCommand config.now command stage.old stage.new.volume }
+    ensures stopped { OnErr result (StopsCommand config.now command stage.old stage.new.volume) }
+    ensures sound { IfOk result (λ _. IsStageOf config.now stage.new) }
+    ensures grows { IfOk result (λ _. GrowsByLine stage.old stage.new) }
     ensures later { stage.old.volume.faults ≤ stage.new.volume.faults }
-    ensures rules { stage.new.volume.rules ≡ stage.old.volume.rules }
-    ensures table_rules { stage.new.table.rules ≡ stage.old.table.rules }
-    ensures table_few { IfOk result (λ _. RisesByOne stage.old.table.state stage.new.table.state) }
-    ensures events { IfOk result (λ _. stage.new.events ≤ stage.old.events + 2) }
-    ensures few { IfOk result (λ _. length stage.new.names.entries ≤ length stage.old.names.entries + 2) }
 {
     match command {
         Command::Open {

@@ -1,4 +1,4 @@
--- The encoding of bytes, piece after piece.
+-- The encoding of bytes, piece after piece: `piece_written`, `none_left`.
 use Rattle.std.proofs.Common.{◌≡◌, ℕ, List, [], ◌∷◌, ◌++◌, ◌/◌, ◌%◌, length, slice_index, refl, sym, ap, ◌∙◌, append_assoc, append-nil}
 use Rattle.std.proofs.lemmas.List.{nil_from_length}
 use Rattle.hex.specs.Hex.{encode_lower, encode_with, lower_digits}

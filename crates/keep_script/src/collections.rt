@@ -1,10 +1,10 @@
 // What a line opens a task of collections with.
-ghost use Rattle.std.specs.Prelude.{◌≡◌, ◌≤◌, ◌<◌, ◌+◌, ◌^◌, IfOk, IfSome, Option, None, Some, option_map, option_copied};
+ghost use Rattle.std.specs.Prelude.{◌≡◌, IfOk, IfSome, Option, None, Some, option_map, option_copied};
 ghost use Rattle.serde_json.specs.View.{view, items_view};
 ghost use Rattle.keep_history.specs.Names.{state_of_name};
-ghost use Rattle.keep_history.specs.Script.{ended_text, joined_parts, manifest_of_data, members_if, number_of_data, part_of_data, read_of_data, request_of_data, restore_of_data, save_of_data, sweep_of_data, table_opening_of_kind, text_of_data, text_of_reference, time_at, trash_of_data, update_of_data, want_at, HasTimes};
+ghost use Rattle.keep_history.specs.Script.{ended_text, joined_parts, manifest_of_data, number_of_data, part_of_data, read_of_data, request_of_data, restore_of_data, save_of_data, sweep_of_data, table_opening_of_kind, text_of_data, text_of_reference, trash_of_data, update_of_data, want_at, HasTimes};
 
-use crate::fields::copied;
+use crate::fields::{members_if, time_at};
 use crate::opening::locator_of_value;
 use keep_config::json::{has_members, number_at, text_at, truth_or};
 use keep_event::SaveRequest;
@@ -14,12 +14,10 @@ use serde_json::Value;
 use std::alloc::Global;
 use std::collections::BTreeMap;
 
-/// The greatest number of copies that a line may want.
+/// The greatest number of replicas that a line may want.
 const WANT_MAX: u64 = 1_000_000_000_000_000_000;
 
-/// The first reading, in nanoseconds since 1970, that no time may be.
-const TIME_END: u64 = 4_000_000_000_000_000_000;
-
+/// The same for the kinds that ask the table.
 pub(crate) fn table_opening_of_kind(
     alloc: Global,
     names: &BTreeMap<Bytes, TaskState>,
@@ -85,7 +83,7 @@ fn update_of_value(
         return Ok(None);
     };
     Ok(Some(Opening::Update {
-        collection: copied(alloc, collection)?,
+        collection: Bytes::copy_of(alloc, collection.as_bytes())?,
         preserve,
         request,
     }))
@@ -108,8 +106,8 @@ fn read_of_value(alloc: Global, value: &Value) -> Result<Option<Opening>, NoMemo
         return Ok(None);
     };
     Ok(Some(Opening::Read {
-        token: copied(alloc, token)?,
-        collection: copied(alloc, collection)?,
+        token: Bytes::copy_of(alloc, token.as_bytes())?,
+        collection: Bytes::copy_of(alloc, collection.as_bytes())?,
         version,
     }))
 }
@@ -134,8 +132,8 @@ fn trash_of_value(alloc: Global, value: &Value) -> Result<Option<Opening>, NoMem
         return Ok(None);
     };
     Ok(Some(Opening::Trash {
-        token: copied(alloc, token)?,
-        collection: copied(alloc, collection)?,
+        token: Bytes::copy_of(alloc, token.as_bytes())?,
+        collection: Bytes::copy_of(alloc, collection.as_bytes())?,
         trash_at,
         delete_at,
     }))
@@ -155,8 +153,8 @@ fn restore_of_value(alloc: Global, value: &Value) -> Result<Option<Opening>, NoM
         return Ok(None);
     };
     Ok(Some(Opening::Restore {
-        token: copied(alloc, token)?,
-        collection: copied(alloc, collection)?,
+        token: Bytes::copy_of(alloc, token.as_bytes())?,
+        collection: Bytes::copy_of(alloc, collection.as_bytes())?,
     }))
 }
 
@@ -195,19 +193,11 @@ fn request_of_value(
         return Ok(None);
     };
     Ok(Some(SaveRequest {
-        token: copied(alloc, token)?,
+        token: Bytes::copy_of(alloc, token.as_bytes())?,
         text,
         want,
         portable,
     }))
-}
-
-fn members_if(count: usize, there: bool) -> usize
-    requires { count < 2 ^ 32 }
-    ensures value { result ≡ members_if count there }
-    ensures bound { result ≤ count + 1 }
-{
-    if there { count + 1 } else { count }
 }
 
 fn want_at(value: &Value) -> Option<u64>
@@ -219,30 +209,20 @@ fn want_at(value: &Value) -> Option<u64>
     }
 }
 
-fn time_at(value: &Value, field: &str) -> Option<u64>
-    ensures time { result ≡ time_at field.now (view value.now) }
-    ensures below { IfSome result (λ n. n < 4000000000000000000) }
-{
-    match number_at(value, field) {
-        Some(time) if time < TIME_END => Some(time),
-        _ => None,
-    }
-}
-
-// None where a member is there that is no text.
+// A text that may be left out. None where the member is no text.
 fn text_of_member(alloc: Global, member: Option<&Value>) -> Result<Option<Option<Bytes>>, NoMemory>
     ensures { IfOk result (λ o. o ≡ text_of_data (option_map view (option_copied member.entry))) }
 {
     match member {
         Some(value) => match value.as_str() {
-            Some(text) => Ok(Some(Some(copied(alloc, text)?))),
+            Some(text) => Ok(Some(Some(Bytes::copy_of(alloc, text.as_bytes())?))),
             None => Ok(None),
         },
         None => Ok(Some(None)),
     }
 }
 
-// None where a member is there that is no whole number.
+// A whole number that may be left out. None where the member is none.
 fn number_of_member(member: Option<&Value>) -> Option<Option<u64>>
     ensures { result ≡ number_of_data (option_map view (option_copied member.entry)) }
 {
@@ -260,7 +240,7 @@ fn manifest_of_value(
     ensures { IfOk result (λ o. o ≡ manifest_of_data names.now.entries (view value.now)) }
 {
     if let Some(text) = value.as_str() {
-        return Ok(Some(copied(alloc, text)?));
+        return Ok(Some(Bytes::copy_of(alloc, text.as_bytes())?));
     }
     match value.as_array() {
         Some(parts) => joined_parts(alloc, names, parts),
@@ -309,7 +289,7 @@ fn text_of_reference(
         return Ok(None);
     }
     match text_at(value, "manifest") {
-        Some(name) => ended_text(alloc, names, &copied(alloc, name)?),
+        Some(name) => ended_text(alloc, names, &Bytes::copy_of(alloc, name.as_bytes())?),
         None => Ok(None),
     }
 }

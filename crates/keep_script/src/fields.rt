@@ -1,25 +1,26 @@
-// What single fields of a line say.
-ghost use Rattle.std.specs.Prelude.{◌≡◌, ◌<◌, IfOk, IfSome};
+// What single members of a line say.
+ghost use Rattle.std.specs.Prelude.{◌≡◌, ◌≤◌, ◌<◌, ◌+◌, ◌^◌, IfOk, IfSome};
 ghost use Rattle.std.specs.List.{list_all};
 ghost use Rattle.serde_json.specs.View.{view};
-ghost use Rattle.keep_history.specs.Script.{device_at, is_name_character, is_task_name, name_at, reading_at, server_at};
+ghost use Rattle.keep_spec.specs.Times.{IsReading};
+ghost use Rattle.keep_history.specs.Script.{device_at, is_name_character, is_task_name, members_if, name_at, reading_at, server_at, time_at};
 
 use keep_config::json::{number_at, text_at};
-use keep_spec::{Bytes, NoMemory};
+use keep_spec::{Bytes, NoMemory, READING_END};
 use serde_json::Value;
 use std::alloc::Global;
 
 /// The longest name of a task, in bytes.
 const NAME_MAX: usize = 64;
 
-/// The first reading, in nanoseconds since 1970, that no line may have.
-const READING_END: u64 = 4_000_000_000_000_000_000;
-
+/// The name of a task at a name, copied: 1 to 64 letters, digits, `_` and `-`.
 pub(crate) fn name_at(alloc: Global, value: &Value, field: &str) -> Result<Option<Bytes>, NoMemory>
     ensures { IfOk result (λ o. o ≡ name_at field.now (view value.now)) }
 {
     match text_at(value, field) {
-        Some(text) if is_task_name(text.as_bytes()) => { Ok(Some(copied(alloc, text)?)) }
+        Some(text) if is_task_name(text.as_bytes()) => {
+            Ok(Some(Bytes::copy_of(alloc, text.as_bytes())?))
+        }
         _ => Ok(None),
     }
 }
@@ -42,22 +43,35 @@ fn is_name_character(byte: u8) -> bool
     byte.is_ascii_alphanumeric() || byte == b'_' || byte == b'-'
 }
 
+/// The reading of a line, in nanoseconds since 1970.
 pub(crate) fn reading_at(value: &Value) -> Option<u64>
     ensures reading { result ≡ reading_at (view value.now) }
-    ensures below { IfSome result (λ n. n < 4000000000000000000) }
+    ensures below { IfSome result (λ n. IsReading n) }
 {
-    match number_at(value, "at") {
-        Some(reading) if reading < READING_END => Some(reading),
+    time_at(value, "at")
+}
+
+/// A reading at a name, in nanoseconds since 1970.
+pub(crate) fn time_at(value: &Value, field: &str) -> Option<u64>
+    ensures time { result ≡ time_at field.now (view value.now) }
+    ensures below { IfSome result (λ n. IsReading n) }
+{
+    match number_at(value, field) {
+        Some(time) if time < READING_END => Some(time),
         _ => None,
     }
 }
 
-pub(crate) fn copied(alloc: Global, text: &str) -> Result<Bytes, NoMemory>
-    ensures { IfOk result (λ b. b ≡ text.now) }
+/// How many members a line has, one of which may be left out.
+pub(crate) fn members_if(count: usize, given: bool) -> usize
+    requires { count < 2 ^ 32 }
+    ensures value { result ≡ members_if count given }
+    ensures bound { result ≤ count + 1 }
 {
-    Ok(Bytes::of(Vec::from_slice(alloc, text.as_bytes())?))
+    if given { count + 1 } else { count }
 }
 
+/// The one server that a line can name so far.
 pub(crate) fn server_at(value: &Value) -> Option<u32>
     ensures { result ≡ server_at (view value.now) }
 {
@@ -67,6 +81,7 @@ pub(crate) fn server_at(value: &Value) -> Option<u32>
     }
 }
 
+/// The one device that a line can name so far.
 pub(crate) fn device_at(value: &Value) -> Option<u32>
     ensures { result ≡ device_at (view value.now) }
 {

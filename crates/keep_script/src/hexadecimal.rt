@@ -9,7 +9,7 @@ use hex::{FromHexError, encode_to_slice};
 use keep_spec::{Bytes, NoMemory, is_lower_digit};
 use std::alloc::Global;
 
-/// The bytes of lower-case digits, None where the text isn't pairs of them.
+/// Decodes lower-case digits. `None` where the text isn't pairs of them.
 pub(crate) fn bytes_of_text(alloc: Global, digits: &[u8]) -> Result<Option<Bytes>, NoMemory>
     ensures { IfOk result (λ o. o ≡ bytes_of_text digits.now) }
 {
@@ -32,7 +32,7 @@ fn are_lower_digits(digits: &[u8]) -> bool
 /// How many bytes are written as digits at a time.
 const PIECE: usize = 512;
 
-/// Writes the digits of bytes behind `out`.
+/// Appends the digits of bytes to `out`. On error a part of them may remain.
 pub(crate) fn push_digits(out: &mut Vec<u8>, bytes: &[u8]) -> Result<(), NoMemory>
     ensures { OnOk result (out.new.items ≡ out.old.items ++ encode_lower bytes.now) }
 {

@@ -1,6 +1,7 @@
 // The command of a line.
-ghost use Rattle.std.specs.Prelude.{◌≡◌, ◌<◌, IfOk, IfSome};
+ghost use Rattle.std.specs.Prelude.{◌≡◌, IfOk, IfSome};
 ghost use Rattle.serde_json.specs.View.{view};
+ghost use Rattle.keep_spec.specs.Times.{IsReading};
 ghost use Rattle.keep_history.specs.Script.{command_of, command_of_data, finishes, is_open, opens, reading_of, HasCommandTimes};
 ghost use Rattle.keep_history.specs.Names.{state_of_name};
 
@@ -13,7 +14,8 @@ use serde_json::Value;
 use std::alloc::Global;
 use std::collections::BTreeMap;
 
-/// Reads one script line, without its line break, beside the names that earlier lines opened. None where it is no line of a script there.
+/// Parses one script line, without its newline, given the names that earlier lines opened and what has become of their tasks. `None` means that it is no
+/// script line after them. `NoMemory` is the only error, and changes nothing. The form of the lines is this project's own.
 #[tactic(auto, unfolding(keep_history::specs::Script::command_of))]
 pub fn read_command(
     alloc: Global,
@@ -21,7 +23,7 @@ pub fn read_command(
     text: &[u8],
 ) -> Result<Option<Command>, NoMemory>
     ensures command { IfOk result (λ o. o ≡ command_of names.now.entries text.now) }
-    ensures reading { IfOk result (λ o. IfSome o (λ c. reading_of c < 4000000000000000000)) }
+    ensures reading { IfOk result (λ o. IfSome o (λ c. IsReading (reading_of c))) }
     ensures times { IfOk result (λ o. IfSome o HasCommandTimes) }
 {
     match value_of(alloc, text)? {
@@ -36,7 +38,7 @@ fn command_of_value(
     value: &Value,
 ) -> Result<Option<Command>, NoMemory>
     ensures command { IfOk result (λ o. o ≡ command_of_data names.now.entries (view value.now)) }
-    ensures reading { IfOk result (λ o. IfSome o (λ c. reading_of c < 4000000000000000000)) }
+    ensures reading { IfOk result (λ o. IfSome o (λ c. IsReading (reading_of c))) }
     ensures times { IfOk result (λ o. IfSome o HasCommandTimes) }
 {
     if value.get("open").is_some() {
@@ -52,7 +54,7 @@ fn opens(
     value: &Value,
 ) -> Result<Option<Command>, NoMemory>
     ensures command { IfOk result (λ o. o ≡ opens names.now.entries (view value.now)) }
-    ensures reading { IfOk result (λ o. IfSome o (λ c. reading_of c < 4000000000000000000)) }
+    ensures reading { IfOk result (λ o. IfSome o (λ c. IsReading (reading_of c))) }
     ensures times { IfOk result (λ o. IfSome o HasCommandTimes) }
 {
     let Some(name) = name_at(alloc, value, "open")? else {
@@ -83,7 +85,7 @@ fn finishes(
     value: &Value,
 ) -> Result<Option<Command>, NoMemory>
     ensures command { IfOk result (λ o. o ≡ finishes names.now.entries (view value.now)) }
-    ensures reading { IfOk result (λ o. IfSome o (λ c. reading_of c < 4000000000000000000)) }
+    ensures reading { IfOk result (λ o. IfSome o (λ c. IsReading (reading_of c))) }
     ensures times { IfOk result (λ o. IfSome o HasCommandTimes) }
 {
     let Some(name) = name_at(alloc, value, "finish")? else {

@@ -1,12 +1,12 @@
 // What a line opens a task with.
-ghost use Rattle.std.specs.Prelude.{◌≡◌, ◌<◌, ◌^◌, IfOk, IfSome, Option, None, Some, option_map, option_copied};
+ghost use Rattle.std.specs.Prelude.{◌≡◌, IfOk, IfSome, Option, None, Some, option_map, option_copied};
 ghost use Rattle.serde_json.specs.View.{view};
 ghost use Rattle.serde_json.specs.Find.{get};
-ghost use Rattle.keep_history.specs.Script.{block_request_of_data, digest_at, digest_of_data, ended_locator, get_of_data, locator_of_data, locator_of_reference, members_with, opening_of_kind, put_of_data, restart_of_data, touch_of_data, untrash_of_data, HasTimes};
+ghost use Rattle.keep_history.specs.Script.{block_request_of_data, digest_at, digest_of_data, ended_locator, get_of_data, locator_of_data, locator_of_reference, opening_of_kind, put_of_data, restart_of_data, touch_of_data, untrash_of_data, HasTimes};
 ghost use Rattle.keep_history.specs.Names.{state_of_name};
 
 use crate::collections::table_opening_of_kind;
-use crate::fields::{copied, device_at, server_at};
+use crate::fields::{device_at, members_if, server_at};
 use crate::hexadecimal::bytes_of_text;
 use keep_config::json::{has_members, text_at};
 use keep_history::{Opening, TaskState};
@@ -15,6 +15,7 @@ use serde_json::Value;
 use std::alloc::Global;
 use std::collections::BTreeMap;
 
+/// The opening of a line of this kind, from its other members. None where they aren't those of the kind.
 pub(crate) fn opening_of_kind(
     alloc: Global,
     names: &BTreeMap<Bytes, TaskState>,
@@ -55,14 +56,14 @@ fn put_of_value(alloc: Global, value: &Value) -> Result<Option<Opening>, NoMemor
     let Some(digest) = digest_of_member(value.get("digest")) else {
         return Ok(None);
     };
-    if !has_members(value, members_with(6, &digest)) {
+    if !has_members(value, members_if(6, digest.is_some())) {
         return Ok(None);
     }
     let Some(bytes) = bytes_of_text(alloc, digits.as_bytes())? else {
         return Ok(None);
     };
     Ok(Some(Opening::Put {
-        token: copied(alloc, token)?,
+        token: Bytes::copy_of(alloc, token.as_bytes())?,
         server,
         bytes,
         digest,
@@ -100,7 +101,7 @@ fn block_request_of_value(
         return Ok(None);
     };
     Ok(Some(BlockRequest {
-        token: copied(alloc, token)?,
+        token: Bytes::copy_of(alloc, token.as_bytes())?,
         server,
         locator,
     }))
@@ -171,7 +172,7 @@ fn untrash_of_value(alloc: Global, value: &Value) -> Result<Option<Opening>, NoM
         return Ok(None);
     }
     Ok(Some(Opening::Untrash {
-        token: copied(alloc, token)?,
+        token: Bytes::copy_of(alloc, token.as_bytes())?,
         server,
         digest,
     }))
@@ -195,7 +196,7 @@ fn digest_at(value: &Value, field: &str) -> Option<Digest>
     Digest::read(text_at(value, field)?.as_bytes())
 }
 
-// None where a digest is given that is none.
+// A digest that may be left out. None where the member is no digest.
 fn digest_of_member(member: Option<&Value>) -> Option<Option<Digest>>
     ensures { result ≡ digest_of_data (option_map view (option_copied member.entry)) }
 {
@@ -208,16 +209,7 @@ fn digest_of_member(member: Option<&Value>) -> Option<Option<Digest>>
     }
 }
 
-fn members_with(count: usize, digest: &Option<Digest>) -> usize
-    requires { count < 2 ^ 32 }
-    ensures { result ≡ members_with count digest.now }
-{
-    match digest {
-        Some(_) => count + 1,
-        None => count,
-    }
-}
-
+/// The locator of a text, or of a reference to a task that ended with one.
 pub(crate) fn locator_of_value(
     alloc: Global,
     names: &BTreeMap<Bytes, TaskState>,
@@ -226,7 +218,7 @@ pub(crate) fn locator_of_value(
     ensures { IfOk result (λ o. o ≡ locator_of_data names.now.entries (view value.now)) }
 {
     match value.as_str() {
-        Some(text) => Ok(Some(copied(alloc, text)?)),
+        Some(text) => Ok(Some(Bytes::copy_of(alloc, text.as_bytes())?)),
         None => locator_of_reference(alloc, names, value),
     }
 }
@@ -242,7 +234,7 @@ fn locator_of_reference(
         return Ok(None);
     }
     match text_at(value, "locator") {
-        Some(name) => ended_locator(alloc, names, &copied(alloc, name)?),
+        Some(name) => ended_locator(alloc, names, &Bytes::copy_of(alloc, name.as_bytes())?),
         None => Ok(None),
     }
 }

@@ -10,7 +10,8 @@ use keep_event::DeviceAnswer;
 use keep_history::Outcome;
 use keep_spec::{Bytes, Digest, NoMemory, Portable};
 
-/// Writes the line of an event of a named task on a device behind `out`. On a refusal part of the line may stand there.
+/// Appends to `out` the line of an event of a named task on a device: the name, `d` and the device's number, the answer's word and fields, a newline.
+/// On error a part of the line may remain.
 #[tactic(auto, unfolding(keep_history::specs::Printed::event_line))]
 pub fn push_event_line(
     out: &mut Vec<u8>,
@@ -29,7 +30,7 @@ pub fn push_event_line(
     Ok(())
 }
 
-/// Writes the line of a named task's end behind `out`. On a refusal part of the line may stand there.
+/// Appends to `out` the line of a named task's end: the name, `=`, the outcome's word and fields, a newline. On error a part of the line may remain.
 #[tactic(auto, unfolding(keep_history::specs::Printed::end_line))]
 pub fn push_end_line(out: &mut Vec<u8>, name: &[u8], outcome: &Outcome) -> Result<(), NoMemory>
     ensures { OnOk result (out.new.items ≡ out.old.items ++ end_line name.now outcome.now) }

@@ -8,7 +8,8 @@ use crate::printed::{push_number, push_text, push_word};
 use keep_event::TableAnswer;
 use keep_spec::{Kind, NoMemory, Portable, Unverified};
 
-/// Writes the line of an event of a named task at the table behind `out`. On a refusal part of the line may stand there.
+/// Appends to `out` the line of an event of a named task at the table: the name, `table`, the answer's word and fields, a newline. On error a part of the
+/// line may remain.
 #[tactic(auto, unfolding(keep_history::specs::Printed::table_event_line))]
 pub fn push_table_event_line(
     out: &mut Vec<u8>,
@@ -161,7 +162,7 @@ fn push_unsigned(out: &mut Vec<u8>, index: u64, why: Unverified) -> Result<(), N
     }
 }
 
-/// Writes an optional number, or a dash where it is absent, behind a space.
+/// Appends a space and the number, or a dash where there is none.
 pub(crate) fn push_optional(out: &mut Vec<u8>, number: Option<u64>) -> Result<(), NoMemory>
     ensures { OnOk result (out.new.items ≡ out.old.items ++ optional_field number) }
 {
@@ -171,7 +172,7 @@ pub(crate) fn push_optional(out: &mut Vec<u8>, number: Option<u64>) -> Result<()
     }
 }
 
-/// Writes a text as a JSON string, with the shortest escapes.
+/// Appends a text as a JSON string (RFC 8259), with the shortest escapes.
 pub(crate) fn push_quoted(out: &mut Vec<u8>, text: &[u8]) -> Result<(), NoMemory>
     ensures { OnOk result (out.new.items ≡ out.old.items ++ quoted text.now) }
 {

@@ -1,36 +1,36 @@
 use Rattle.std.proofs.Common.{[], ◌+◌, Ok, refl, sym, ◌∙◌, ap, arith}
 use Rattle.keep_history.specs.Tasks.{ends}
-use Rattle.keep_run.specs.Asked.{IsPartFinished, single_outcome}
-use Rattle.keep_run.proofs.Asks.{ask-end, ask-more, part-none, part-more}
-use Rattle.keep_run.proofs.Nexts.{single-asks, single-ends}
+use Rattle.keep_run.specs.Asked.{IsPartFinished, turn, single_outcome}
+use Rattle.keep_run.proofs.Queries.{ask-end, ask-more, part-none, part-more}
+use Rattle.keep_run.proofs.Tasks.{single-asks, single-ends}
 use Rattle.keep_run.proofs.Replies.{if_told, on_err, replies, failed-answer, refused_same}
 use Rattle.keep_run.proofs.asking.finish_single.Goals as goal
 
-pub returns-in_err-answer-clause-part : goal.returns-in_err-answer-clause-part
-returns-in_err-answer-clause-part g c =
-    on_err {P = IsPartFinished c.args.config.now c.args.reading c.args.task.now c.args.volume.now c.step.new.self} _ (λ n actor. if_told _ (λ s is.
+pub returns-in_err-answer-clause-stopped : goal.returns-in_err-answer-clause-stopped
+returns-in_err-answer-clause-stopped g c =
+    on_err {P = IsPartFinished (turn c.args.config.now c.args.reading c.args.name.now c.args.task.now) c.args.volume.now c.step.new.self} _ (λ n actor. if_told _ (λ s is.
     part-none c.args.config.now actor c.args.reading c.args.task.now c.args.name.now n _ _ s _ _ (refused_same _ _ _ _ c.in_err-answer.ensures.line ∙ is) c.in_err-answer.ensures.line.later))
 
-pub returns-in_err-push_event_line-clause-part : goal.returns-in_err-push_event_line-clause-part
-returns-in_err-push_event_line-clause-part g c =
+pub returns-in_err-push_event_line-clause-stopped : goal.returns-in_err-push_event_line-clause-stopped
+returns-in_err-push_event_line-clause-stopped g c =
     let task = c.args.task.now in
     let config = c.args.config.now in
-    on_err {P = IsPartFinished config c.args.reading task c.args.volume.now c.step.new.self} _ (λ n actor. if_told _ (λ s is.
+    on_err {P = IsPartFinished (turn config c.args.reading c.args.name.now task) c.args.volume.now c.step.new.self} _ (λ n actor. if_told _ (λ s is.
     let r = replies _ _ _ c.in_ok-answer.answer s is (rw c.requires.rules at c.in_ok-answer.ensures.line) in
     part-more config actor c.args.reading task c.args.name.now 127 n _ _ _ s _ _ [] _ _ c.args.query.now c.in_ok-answer.answer (single-asks config task _ c.requires.query) r (λ f. c.in_ok-answer.ensures.may_fault (ap Ok (failed-answer _ _ _ _ _ _ r f))) (omega arith)
     (part-none config actor c.args.reading task c.args.name.now (n + 1) _ _ _ _ _ r.state_is (omega arith))))
 
-pub returns-in_err-outcome-clause-part : goal.returns-in_err-outcome-clause-part
-returns-in_err-outcome-clause-part g c =
+pub returns-in_err-outcome-clause-stopped : goal.returns-in_err-outcome-clause-stopped
+returns-in_err-outcome-clause-stopped g c =
     let task = c.args.task.now in
     let config = c.args.config.now in
-    on_err {P = IsPartFinished config c.args.reading task c.args.volume.now c.step.new.self} _ (λ n actor. if_told _ (λ s is.
+    on_err {P = IsPartFinished (turn config c.args.reading c.args.name.now task) c.args.volume.now c.step.new.self} _ (λ n actor. if_told _ (λ s is.
     let r = replies _ _ _ c.in_ok-answer.answer s is (rw c.requires.rules at c.in_ok-answer.ensures.line) in
     part-more config actor c.args.reading task c.args.name.now 127 n _ _ _ s _ _ [] _ _ c.args.query.now c.in_ok-answer.answer (single-asks config task _ c.requires.query) r (λ f. c.in_ok-answer.ensures.may_fault (ap Ok (failed-answer _ _ _ _ _ _ r f))) (omega arith)
     (part-none config actor c.args.reading task c.args.name.now (n + 1) _ _ _ _ _ r.state_is (omega arith))))
 
-pub returns-clause-effect : goal.returns-clause-effect
-returns-clause-effect g c = λ n actor. if_told _ (λ s is.
+pub returns-clause-done : goal.returns-clause-done
+returns-clause-done g c = λ n actor. if_told _ (λ s is.
     let task = c.args.task.now in
     let config = c.args.config.now in
     let r = replies _ _ _ c.in_ok-answer.answer s is (rw c.requires.rules at c.in_ok-answer.ensures.line) in

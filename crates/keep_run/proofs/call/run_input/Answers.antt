@@ -2,9 +2,9 @@ use Rattle.std.proofs.Common.{◌≡◌, length, arith}
 use Rattle.std.proofs.Math.Nat.{le_refl}
 use Rattle.keep_base.specs.Lines.{lines_left}
 use Rattle.keep_run.specs.Stores.{first_state}
-use Rattle.keep_run.proofs.Calls.{ran-error, ran-none, ran-refused, stores-ran, stores-same}
-use Rattle.keep_run.proofs.RunSteps.{given_of}
-use Rattle.keep_run.proofs.StoreSteps.{all_told, told_all}
+use Rattle.keep_run.proofs.Inputs.{ran-error, ran-none, ran-refused, stores-ran, stores-same}
+use Rattle.keep_run.proofs.Runs.{given_of}
+use Rattle.keep_run.proofs.StoreRuns.{all_told, told_all}
 use Rattle.keep_run.proofs.call.run_input.Goals as goal
 
 pub returns-in-Ok-None-clause-told : goal.returns-in-Ok-None-clause-told

@@ -1,8 +1,15 @@
 use Rattle.std.proofs.Common.{◌≡◌, sym, ◌∙◌, true, false, IsTrue, ◌↔◌}
 use Rattle.keep_event.specs.Device.{State, initial}
 use Rattle.keep_run.proofs.Replies.{told_at}
-use Rattle.keep_run.proofs.StoreSteps.{all_told, empty_initial, given_back, not_initial, opened_state, ran-lines, ran-memory, ran-not-empty, told_all, told_keeps}
+use Rattle.keep_run.proofs.StoreRuns.{all_told, empty_initial, given_back, not_initial, opened_state, ran-lines, ran-memory, ran-not-empty, told_all, told_keeps}
 use Rattle.keep_run.proofs.call.run_store.Goals as goal
+
+pub run_lines-status-requires-clause-sound : goal.run_lines-status-requires-clause-sound
+run_lines-status-requires-clause-sound g c = record {
+  device_rules = c.in-Ok.ensures.opened.rules ∙ c.rules_of.ensures.rules;
+  table_rules = c.table_new.ensures.rules;
+  askable = tt;
+}
 
 pub returns-in-Err-NoMemory-clause-told : goal.returns-in-Err-NoMemory-clause-told
 returns-in-Err-NoMemory-clause-told g c =
@@ -25,4 +32,4 @@ returns-clause-told g c =
     let st = opened_state _ _ _ c.in-Ok.volume start es c.in-Ok.ensures.opened in
     let iff = told_at (λ (s : State). IsTrue c.is_empty.result ↔ (s ≡ initial)) _ start st c.is_empty.ensures.told in
     let ended = told_all _ _ _ _ bytes start t el st et c.run_lines-status.ensures.told in
-    rw c.into_store-2.ensures.faults (ran-lines c.args.config.now _ bytes start t _ _ d _ _ _ _ _ c.requires.first (empty_initial start (iff.0 c.if-not-is_empty.false)) c.into_store-2.ensures.held c.into_store-2.ensures.note c.in-Ok.ensures.later ended))
+    rw c.into_store-2.ensures.faults (ran-lines c.args.config.now _ bytes start t _ _ d _ _ _ _ _ _ c.requires.first (empty_initial start (iff.0 c.if-not-is_empty.false)) c.into_store-2.ensures.held c.into_store-2.ensures.note c.in-Ok.ensures.later ended))

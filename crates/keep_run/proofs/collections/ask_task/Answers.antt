@@ -1,5 +1,5 @@
 use Rattle.keep_run.proofs.Counters.{line-few}
 use Rattle.keep_run.proofs.collections.ask_task.Goals as goal
 
-pub returns-in_ok-outcome-in-Table-clause-table_few : goal.returns-in_ok-outcome-in-Table-clause-table_few
-returns-in_ok-outcome-in-Table-clause-table_few g c = rw c.in_ok-outcome-in-Table.ensures.changed (line-few c.args.table.now.state c.args.config.now c.args.reading c.in-Table.query)
+pub returns-in_ok-outcome-in-Table-clause-table_rises : goal.returns-in_ok-outcome-in-Table-clause-table_rises
+returns-in_ok-outcome-in-Table-clause-table_rises g c = rw c.in_ok-outcome-in-Table.ensures.changed (line-few c.args.table.now.state c.args.config.now c.args.reading c.in-Table.query)

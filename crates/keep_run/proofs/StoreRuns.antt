@@ -1,4 +1,4 @@
--- A run over a store: how it ended, and what it left there.
+-- The run of the lines over a store, and what it leaves there: `ran-memory`, `ran-not-empty` and `ran-lines`; `told_keeps`, `opened_state`, `given_back`, `empty_initial` and `not_initial` on what a store tells; `all_told` and `told_all`.
 use Rattle.std.proofs.Common.{◌≡◌, ◌≢◌, ℕ, ◌≤◌, Bool, true, false, ◌&&◌, eqb, List, [], ◌∷◌, length, Option, None, Some, option_map, IfSome, refl, sym, ◌∙◌, ap, subst, arith, inl, inr}
 use Rattle.std.proofs.lemmas.List.{append-nil}
 use Rattle.std.proofs.lemmas.Bool.{cases_Bool, eqb-true}
@@ -15,9 +15,10 @@ use Rattle.keep_history.specs.Faults.{AreFaults}
 use Rattle.keep_history.specs.Run.{End, is_empty, run_opened, run_lines, Passes, at_start}
 use Rattle.keep_history.specs.Ended.{HowEnded}
 use Rattle.keep_history.proofs.Faults.{AreFaults-none}
-use Rattle.keep_run.specs.Runs.{AllTold, Ended}
+use Rattle.keep_run.specs.Runs.{AllTold, beginning, Ended}
+use Rattle.keep_history.specs.Effects.{Scene}
 use Rattle.keep_run.specs.Stores.{told_state, Keeps, StoreRan}
-use Rattle.keep_run.proofs.RunSteps.{passes-here}
+use Rattle.keep_run.proofs.Runs.{passes-here}
 
 pub all_told : {A B C : Type 0} {P : A → B → C → Type 0} (a : Option A) (b : Option B) (c : Option C) → ((x : A) (y : B) (z : C) → a ≡ Some x → b ≡ Some y → c ≡ Some z → P x y z) → AllTold a b c P
 all_told None b c f = tt
@@ -107,7 +108,7 @@ module _ (config : Configuration) (taken : ℕ) (bytes : List ℕ) (start : Stat
   opened-refused : (failed : List ℕ) → is_empty start ≡ false → run_opened config failed taken start (cut bytes) ≡ record { status = St.NotEmpty 0; effect = at_start start }
   opened-refused failed e = rw e refl
 
-  pub ran-fault : (held : Option (List (Name × Stored))) (noted : Option ℕ) (before now : ℕ) (out : Option (List ℕ)) → Keeps held noted start → before ≤ now → out ≡ Some t → StoreRan config taken bytes start t (St.StoreFault 0) held noted before now out
+  pub ran-fault : (held : Option (List (Name × Stored))) (noted : Option ℕ) (before now : ℕ) (out : Option (List ℕ)) → Keeps held noted start → before ≤ now → out ≡ Some t → StoreRan config (beginning taken 1 bytes start t) (St.StoreFault 0) held noted before now out
   ran-fault held noted before now out k le o = record {
     left = start;
     keeps = k;
@@ -117,7 +118,7 @@ module _ (config : Configuration) (taken : ℕ) (bytes : List ℕ) (start : Stat
     how = (refl, refl, o);
   }
 
-  pub ran-memory : (held : Option (List (Name × Stored))) (noted : Option ℕ) (before now : ℕ) (out : Option (List ℕ)) → Keeps held noted start → before ≤ now → out ≡ Some t → StoreRan config taken bytes start t St.NoMemory held noted before now out
+  pub ran-memory : (held : Option (List (Name × Stored))) (noted : Option ℕ) (before now : ℕ) (out : Option (List ℕ)) → Keeps held noted start → before ≤ now → out ≡ Some t → StoreRan config (beginning taken 1 bytes start t) St.NoMemory held noted before now out
   ran-memory held noted before now out k le o = record {
     left = start;
     keeps = k;
@@ -130,7 +131,7 @@ module _ (config : Configuration) (taken : ℕ) (bytes : List ℕ) (start : Stat
     );
   }
 
-  pub ran-not-empty : (held : Option (List (Name × Stored))) (noted : Option ℕ) (before now : ℕ) (out : Option (List ℕ)) → is_empty start ≡ false → Keeps held noted start → before ≤ now → out ≡ Some t → StoreRan config taken bytes start t (St.NotEmpty 0) held noted before now out
+  pub ran-not-empty : (held : Option (List (Name × Stored))) (noted : Option ℕ) (before now : ℕ) (out : Option (List ℕ)) → is_empty start ≡ false → Keeps held noted start → before ≤ now → out ≡ Some t → StoreRan config (beginning taken 1 bytes start t) (St.NotEmpty 0) held noted before now out
   ran-not-empty held noted before now out e k le o = record {
     left = start;
     keeps = k;
@@ -143,7 +144,6 @@ module _ (config : Configuration) (taken : ℕ) (bytes : List ℕ) (start : Stat
   -- each ending says what the device has
   how-left : (status : Status) (end : End) (M : State → List ℕ → Type 0) (state : Option State) (out : Option (List ℕ)) → HowEnded status start end M state t out → (left : State) × (state ≡ Some left)
   how-left St.Done end M state out h = (end.effect.scene.state, h.1)
-  how-left St.BadWords end M state out h = absurd h
   how-left (St.BadConfig field) end M state out h = (end.effect.scene.state, h.1)
   how-left (St.BadLine n) end M state out h = (end.effect.scene.state, h.1)
   how-left St.WriteFault end M state out h = (h.0.at, h.0.state_is)
@@ -153,15 +153,13 @@ module _ (config : Configuration) (taken : ℕ) (bytes : List ℕ) (start : Stat
   how-left St.InputTooLong end M state out h = (end.effect.scene.state, h.1)
   how-left (St.NotEmpty device) end M state out h = (end.effect.scene.state, h.1)
   how-left (St.StoreFault device) end M state out h = (start, h.1)
-  how-left (St.AuditFault fault) end M state out h = absurd h
-  how-left St.DoorFault end M state out h = absurd h
-  how-left St.PortFault end M state out h = absurd h
+  how-left _ end M state out h = absurd h
 
   earlier : (count first before now : ℕ) (failed : List ℕ) → first ≤ before → AreFaults 0 count before now failed → AreFaults 0 count first now failed
   earlier count first before now failed le f = record { among = f.among; few = λ small. let q = f.few small in omega arith }
 
-  pub ran-lines : (number : ℕ) (status : Status) (d : Device) (held : Option (List (Name × Stored))) (noted : Option ℕ) (first before : ℕ) (out : Option (List ℕ)) → number ≡ 1 → is_empty start ≡ true → held ≡ d.held → IfSome noted (λ n. n ≡ d.round) → first ≤ before → Ended config taken number bytes start t status (state_of d) before d.faults out → StoreRan config taken bytes start t status held noted first d.faults out
-  ran-lines number status d held noted first before out one e h n le ended =
+  pub ran-lines : (number : ℕ) (status : Status) (d : Device) (scene : Option Scene) (held : Option (List (Name × Stored))) (noted : Option ℕ) (first before : ℕ) (out : Option (List ℕ)) → number ≡ 1 → is_empty start ≡ true → held ≡ d.held → IfSome noted (λ n. n ≡ d.round) → first ≤ before → Ended config (beginning taken number bytes start t) status (record { scene = scene; state = state_of d; before = before; now = d.faults }) out → StoreRan config (beginning taken 1 bytes start t) status held noted first d.faults out
+  ran-lines number status d scene held noted first before out one e h n le ended =
       let l = how-left status _ _ (state_of d) out ended.how in
       record {
         left = l.0;

@@ -1,4 +1,4 @@
--- What tasks ask and how they end on the one device.
+-- What tasks ask and how they end on the one device: `put-compares`, `put-compared`, `put-writes`, `put-written` and `put-nowhere` for a put, `single-asks`, `single-ends` and `single-none` for tasks that ask once.
 use Rattle.std.proofs.Common.{◌≡◌, ℕ, Bool, true, false, not, cond, List, [], ◌∷◌, Option, None, Some, ◌⊎◌, inl, inr, refl, sym, ap, ◌∙◌, if◌then◌else◌, unwrap_or}
 use Rattle.keep_spec.specs.Config.{Configuration}
 use Rattle.keep_spec.specs.declared.token.TokenId.{TokenId}

@@ -1,4 +1,4 @@
--- The run of a whole input.
+-- The run of a whole input: `ran-none`, `ran-error` and `ran-refused` where no line is done, `ran-store`; `stores-same` and `stores-ran` over all stores.
 use Rattle.std.proofs.Common.{◌≡◌, ℕ, ◌≤◌, List, [], ◌∷◌, length, Option, Some, Ok, Err, refl, sym, ◌∙◌, ap, arith, inl, inr}
 use Rattle.std.proofs.lemmas.List.{append-nil}
 use Rattle.keep_base.specs.Lines.{IsNext}
@@ -17,10 +17,10 @@ use Rattle.keep_event.specs.declared.names.Stored.{Stored}
 use Rattle.keep_history.specs.Run.{End, line_max, input_max, config_for, run_of, run_pieces, run_opened, at_start, Passes, IsMoment}
 use Rattle.keep_history.specs.Ended.{HowEnded, IsExact, IsStopped, Ran}
 use Rattle.keep_history.proofs.Faults.{AreFaults-none}
-use Rattle.keep_run.specs.Runs.{status_of_line}
+use Rattle.keep_run.specs.Runs.{beginning, status_of_line}
 use Rattle.keep_run.specs.Stores.{first_state, first_faults, FirstKeeps, StoreRan, StoresRan, FirstRan, IsConfigRefusal}
-use Rattle.keep_run.proofs.RunSteps.{Given, fits_piece}
-use Rattle.keep_run.proofs.StoreSteps.{told_keeps}
+use Rattle.keep_run.proofs.Runs.{Given, fits_piece}
+use Rattle.keep_run.proofs.StoreRuns.{told_keeps}
 
 stopped : (M N : State → List ℕ → Type 0) (state : Option State) → ((x : State) (w : List ℕ) → M x w → N x w) → IsStopped M state → IsStopped N state
 stopped M N state f s = record { at = s.at; text = s.text; passed = f s.at s.text s.passed; state_is = s.state_is }
@@ -28,7 +28,6 @@ stopped M N state f s = record { at = s.at; text = s.text; passed = f s.at s.tex
 how-same : (status : Status) (start : State) (end end' : End) (M N : State → List ℕ → Type 0) (state : Option State) (t : List ℕ) (out : Option (List ℕ)) → end ≡ end' → ((x : State) (w : List ℕ) → M x w → N x w) → HowEnded status start end M state t out → HowEnded status start end' N state t out
 unfolding stopped
 how-same St.Done start end end' M N state t out e f h = rw e at h
-how-same St.BadWords start end end' M N state t out e f h = h
 how-same (St.BadConfig field) start end end' M N state t out e f h = rw e at h
 how-same (St.BadLine n) start end end' M N state t out e f h = rw e at h
 how-same St.WriteFault start end end' M N state t out e f h = (stopped M N state f h.0, h.1)
@@ -38,9 +37,7 @@ how-same (St.LineTooLong n) start end end' M N state t out e f h = rw e at h
 how-same St.InputTooLong start end end' M N state t out e f h = rw e at h
 how-same (St.NotEmpty device) start end end' M N state t out e f h = rw e at h
 how-same (St.StoreFault device) start end end' M N state t out e f h = h
-how-same (St.AuditFault fault) start end end' M N state t out e f h = h
-how-same St.DoorFault start end end' M N state t out e f h = h
-how-same St.PortFault start end end' M N state t out e f h = h
+how-same _ start end end' M N state t out e f h = absurd h
 
 pub first_keeps : {S : Type 0} (held : S → Option (List (Name × Stored))) (noted : S → Option ℕ) (stores : List S) (start : State) → first_state held noted stores ≡ Some start → FirstKeeps held noted stores start
 first_keeps held noted [] start e = tt
@@ -121,20 +118,9 @@ module _ (stores : ℕ) (start : State) (bytes t : List ℕ) where
         how = exact (St.BadConfig field) (from-refused field v.piece (cut gv.rest') v.first (fits_piece 0 line.text v.piece v.text_is v.fits_in) c');
       }
   ran-refused before now taken' left' line St.NoMemory le gv r = ran-stopped before now le
-  ran-refused before now taken' left' line St.Done le gv r = absurd r
-  ran-refused before now taken' left' line St.BadWords le gv r = absurd r
-  ran-refused before now taken' left' line (St.BadLine n) le gv r = absurd r
-  ran-refused before now taken' left' line St.WriteFault le gv r = absurd r
-  ran-refused before now taken' left' line St.ReadFault le gv r = absurd r
-  ran-refused before now taken' left' line (St.LineTooLong n) le gv r = absurd r
-  ran-refused before now taken' left' line St.InputTooLong le gv r = absurd r
-  ran-refused before now taken' left' line (St.NotEmpty device) le gv r = absurd r
-  ran-refused before now taken' left' line (St.StoreFault device) le gv r = absurd r
-  ran-refused before now taken' left' line (St.AuditFault fault) le gv r = absurd r
-  ran-refused before now taken' left' line St.DoorFault le gv r = absurd r
-  ran-refused before now taken' left' line St.PortFault le gv r = absurd r
+  ran-refused before now taken' left' line _ le gv r = absurd r
 
-  pub ran-store : (before now taken' : ℕ) (left' : Option (List ℕ)) (line : Line) (config : Configuration) (status : Status) (held : Option (List (Name × Stored))) (noted : Option ℕ) (out' : Option (List ℕ)) → (gv : Given 0 taken' bytes line.text left') → config_for stores line.text ≡ Ok config → (r : StoreRan config taken' gv.rest' start t status held noted before now out') → Ran stores start bytes t status (Some r.left) before now out'
+  pub ran-store : (before now taken' : ℕ) (left' : Option (List ℕ)) (line : Line) (config : Configuration) (status : Status) (held : Option (List (Name × Stored))) (noted : Option ℕ) (out' : Option (List ℕ)) → (gv : Given 0 taken' bytes line.text left') → config_for stores line.text ≡ Ok config → (r : StoreRan config (beginning taken' 1 gv.rest' start t) status held noted before now out') → Ran stores start bytes t status (Some r.left) before now out'
   ran-store before now taken' left' line config status held noted out' gv c r =
       let v = gv.given in
       let c' : config_for stores (text_of v.piece) ≡ Ok config = ap (config_for stores) (sym v.text_is) ∙ c in
@@ -161,7 +147,7 @@ module _ {S : Type 0} (held : S → Option (List (Name × Stored))) (noted : S �
     ran = rw o ran;
   }
 
-  pub stores-ran : (new : List S) (taken' : ℕ) (left' : Option (List ℕ)) (line : Line) (config : Configuration) (status : Status) (out : Option (List ℕ)) → (gv : Given 0 taken' bytes line.text left') → config_for (length old) line.text ≡ Ok config → FirstRan held noted faults config taken' old new gv.rest' start t status out → StoresRan held noted faults old new bytes start t status out
+  pub stores-ran : (new : List S) (taken' : ℕ) (left' : Option (List ℕ)) (line : Line) (config : Configuration) (status : Status) (out : Option (List ℕ)) → (gv : Given 0 taken' bytes line.text left') → config_for (length old) line.text ≡ Ok config → FirstRan held noted faults config (beginning taken' 1 gv.rest' start t) old new status out → StoresRan held noted faults old new bytes start t status out
   stores-ran [] taken' left' line config status out gv c r = absurd r
   stores-ran (x ∷ xs) taken' left' line config status out gv c r = record {
     left = r.left;

@@ -1,4 +1,4 @@
--- What holds of the state of every name.
+-- What holds of the state of every name: `named` keeps it when a name is set, `looked-up` finds it, `after-end` gives it to a task that has ended.
 use Rattle.std.proofs.Common.{ℕ, Bool, true, false, List, [], ◌∷◌, cond, Option, Some, IfSome}
 use Rattle.std.specs.List.{AllByRecursion}
 use Rattle.std.specs.Ordering.{match_ordering, nat_cmp}
@@ -6,7 +6,11 @@ use Rattle.std.specs.Cmp.Lexicographic.{slice_cmp}
 use Rattle.std.specs.BTreeMap.{is_at}
 use Rattle.std.specs.declared.cmp.Ordering.{Ordering}
 use Rattle.std.specs.declared.cmp.Ordering.TheVariants.{Less, Equal, Greater}
+use Rattle.keep_history.specs.declared.task.Outcome.{Outcome}
+use Rattle.keep_history.specs.declared.task.Outcome.TheVariants as O
 use Rattle.keep_history.specs.declared.task.TaskState.{TaskState}
+use Rattle.keep_history.specs.declared.task.TaskState.TheVariants as S
+use Rattle.keep_history.specs.Effects.{state_after}
 use Rattle.keep_history.specs.Names.{Names, state_of_name, with_name}
 
 module _ (P : TaskState → Type 0) where
@@ -30,3 +34,10 @@ module _ (P : TaskState → Type 0) where
   pub looked-up : (name : List ℕ) (names : Names) → AllNames names → IfSome (state_of_name name names) P
   looked-up name [] h = tt
   looked-up name (e ∷ es) h = looked-by (is_at (slice_cmp nat_cmp name) e.0) e.1 (state_of_name name es) h.0 (looked-up name es h.1)
+
+  -- what holds of each state that is not open holds after an end
+  pub after-end : ((locator : List ℕ) → P (S.Located locator)) → ((text : List ℕ) → P (S.Row text)) → P S.Ended → (o : Outcome) → P (state_after o)
+  after-end located row ended (O.Stored locator) = located locator
+  after-end located row ended (O.Touched locator) = located locator
+  after-end located row ended (O.Row version want trash_at text) = row text
+  after-end located row ended _ = ended

@@ -1,4 +1,4 @@
--- One query after another: each adds its event to what the rest does.
+-- A task's queries, one after another: `ask-end` and `ask-more` add events up to the end; `part-none`, `part-more` and `part-all` say that the first of them were made.
 use Rattle.std.proofs.Common.{◌≡◌, ℕ, zero, suc, ◌+◌, ◌≤◌, ◌&&◌, Bool, true, false, List, [], ◌∷◌, ◌++◌, length, Option, Some, refl, sym, ◌∙◌, ap, subst, arith, append_assoc}
 use Rattle.std.proofs.lemmas.Bool.{eq-eqb}
 use Rattle.std.proofs.lemmas.List.{append-nil}
