@@ -17,21 +17,21 @@ use keep_spec::{Digest, NoMemory};
 use std::alloc::Global;
 use std::marker::Model;
 
-/// How far the trashed copies have been looked through: no copy up to a name has a deadline below `earliest`.
+/// How far the search for due copies has come: no copy up to a name has a deadline below `earliest`.
 #[derive(Clone, Copy)]
 pub(crate) struct Passed {
     pub(crate) up_to: Option<Name>,
     pub(crate) earliest: u64,
 }
 
-/// What a look finds, and how far it came.
+/// What a search for a due copy finds, and how far it came.
 #[derive(Clone, Copy)]
 struct Looked {
     found: Option<Name>,
     passed: Passed,
 }
 
-/// The names of a store with their times and sizes.
+/// The names of a store with their times and sizes, and the bytes of all. It is seen as the names; the sum and the place of the search are in its invariant.
 #[derive(Drop)]
 pub(crate) struct Index {
     names: NameMap,
@@ -53,6 +53,7 @@ impl Model for Index {
 }
 
 impl Index {
+    /// The index of these names. They ascend.
     pub(crate) fn of_names(alloc: Global, names: &[Held]) -> Result<Index, NoMemory>
         requires { AreAscending (map (λ h. h.name) names.now) }
         ensures { IfOk result (λ i. i.entries ≡ map sized_held names.now) }
@@ -68,13 +69,14 @@ impl Index {
         })
     }
 
+    /// Whether there are no names.
     pub(crate) fn is_empty(&self) -> bool
         ensures { IsTrue result ↔ (self.now.entries ≡ []) }
     {
         self.names.is_empty()
     }
 
-    /// The bytes of all names.
+    /// The bytes of all names together.
     pub(crate) fn used(&self) -> u128
         ensures value { result ≡ total self.now.entries }
         ensures small { result < 2 ^ 127 }
@@ -82,13 +84,14 @@ impl Index {
         self.used
     }
 
+    /// The time and the size of a name.
     pub(crate) fn get(&self, name: &Name) -> Option<Metadata>
         ensures { result ≡ find name.now self.now.entries }
     {
         self.names.get(name)
     }
 
-    /// The bytes that a name takes.
+    /// The bytes of a name; 0 where it isn't there.
     pub(crate) fn size_at(&self, name: &Name) -> u64
         ensures value { result ≡ size_at name.now self.now.entries }
         ensures part { result ≤ total self.now.entries }
@@ -99,6 +102,7 @@ impl Index {
         }
     }
 
+    /// Sets the time of a name, if it is there.
     pub(crate) fn touch(&mut self, name: &Name, mtime: u64)
         ensures { self.new.entries ≡ change (with_mtime mtime) name.now self.old.entries (find name.now self.old.entries) }
     {
@@ -106,6 +110,7 @@ impl Index {
         self.passed.earliest = earlier(self.passed.earliest, name);
     }
 
+    /// Removes a name, if it is there.
     pub(crate) fn remove(&mut self, name: &Name)
         ensures after { self.new.entries ≡ without name.now self.old.entries }
         ensures room { has name.now self.old.entries ≡ true → 0 < room_for name.now self.new.rooms }
@@ -116,7 +121,7 @@ impl Index {
         self.used -= freed as u128;
     }
 
-    /// Gives what has the name another name of the same digest, in the place of what has that. It takes no memory.
+    /// Moves a name to another of the same digest, replacing any existing entry, and sets its time. It takes no memory.
     pub(crate) fn rename(&mut self, from: &Name, to: &Name, mtime: u64)
         requires { from.now.digest ≡ to.now.digest }
         ensures { self.new.entries ≡ moved (with_mtime mtime) from.now to.now self.old.entries (find from.now self.old.entries) }
@@ -129,6 +134,7 @@ impl Index {
         self.put_in_room(to, Metadata { mtime, size });
     }
 
+    /// Makes room for a name. After NoMemory the names are as they were.
     pub(crate) fn reserve_for(&mut self, name: &Name) -> Result<(), NoMemory>
         ensures same { self.new.entries ≡ self.old.entries }
         ensures ok { OnOk result (0 < room_for name.now self.new.rooms) }
@@ -136,6 +142,7 @@ impl Index {
         self.names.reserve_for(name)
     }
 
+    /// Stores a time and a size under a name, replacing any existing entry. There must be room for it.
     pub(crate) fn put_in_room(&mut self, name: &Name, sized: Metadata)
         requires room { 0 < room_for name.now self.old.rooms }
         requires fits { total self.old.entries - size_at name.now self.old.entries + sized.size < 2 ^ 127 }
@@ -147,7 +154,7 @@ impl Index {
         self.passed.earliest = earlier(self.passed.earliest, name);
     }
 
-    /// The first trashed copy whose deadline has passed.
+    /// The first trashed copy whose deadline is below the reading. It goes on from where the last search stopped.
     pub(crate) fn first_due(&mut self, reading: u64) -> Option<Name>
         ensures value { result ≡ option_map (λ e. e.0) (list_find (due reading) self.old.entries) }
         ensures same { self.new.entries ≡ self.old.entries }
@@ -180,7 +187,7 @@ impl Index {
         last
     }
 
-    /// The replicas whose digits begin with the prefix.
+    /// The replicas whose digits begin with the prefix, ascending.
     pub(crate) fn page(&self, alloc: Global, prefix: &[u8]) -> Result<Vec<Entry>, NoMemory>
         ensures { IfOk result (λ v. v.items ≡ map sized_entry (filter (λ e. machine.is_paged prefix.now e.0) self.now.entries)) }
     {
@@ -192,7 +199,7 @@ impl Index {
     }
 }
 
-// Adds the replicas whose digits begin with the prefix.
+// Appends the replicas of one bucket whose digits begin with the prefix.
 fn page_more(entries: &mut Vec<Entry>, names: &NameList, prefix: &[u8]) -> Result<(), NoMemory>
     ensures { OnOk result (entries.new.items ≡ entries.old.items ++ map sized_entry (filter (λ e. machine.is_paged prefix.now e.0) names.now.entries)) }
 {
@@ -211,7 +218,7 @@ fn page_more(entries: &mut Vec<Entry>, names: &NameList, prefix: &[u8]) -> Resul
     Ok(())
 }
 
-// Looks for the first copy whose deadline has passed, from where an earlier look came to.
+// Searches for the first due copy from where an earlier search stopped.
 fn look_through(names: &NameMap, passed: Passed, reading: u64) -> Looked
     requires waiting { reading ≤ passed.earliest }
     requires passed { ArePassed passed.up_to passed.earliest names.now.entries }
@@ -233,7 +240,7 @@ fn look_through(names: &NameMap, passed: Passed, reading: u64) -> Looked
     }
 }
 
-// The same in one bucket, in the names above one.
+// The same in one bucket, among the names above one.
 fn look_in(names: &NameList, after: Option<&Name>, passed: Passed, reading: u64) -> Looked
     ensures { result ≡ look reading passed (above (named after.entry) names.now.entries) }
 {
@@ -258,7 +265,7 @@ fn look_in(names: &NameList, after: Option<&Name>, passed: Passed, reading: u64)
     }
 }
 
-// The earliest deadline, once a name is there too.
+// The earlier of a deadline and that of a name.
 fn earlier(earliest: u64, name: &Name) -> u64
     ensures { result ≡ earlier_of earliest name.now.deadline }
 {
@@ -268,7 +275,7 @@ fn earlier(earliest: u64, name: &Name) -> u64
     }
 }
 
-// The names with their times and sizes, and the bytes of all.
+// The names with their times and sizes, and the bytes of all together.
 fn sized_names(alloc: Global, names: &[Held]) -> Result<(NameMap, u128), NoMemory>
     requires { AreAscending (map (λ h. h.name) names.now) }
     ensures entries { IfOk result (λ r. r.0.entries ≡ map sized_held names.now) }
@@ -288,6 +295,7 @@ fn sized_names(alloc: Global, names: &[Held]) -> Result<(NameMap, u128), NoMemor
     Ok((index, used))
 }
 
+// Whether a name's deadline is below the reading.
 fn is_due(deadline: Option<u64>, reading: u64) -> bool
     ensures { result ≡ machine.is_due_at reading deadline }
 {
@@ -297,7 +305,7 @@ fn is_due(deadline: Option<u64>, reading: u64) -> bool
     }
 }
 
-// Whether it names a replica whose digits begin so.
+// Whether the name is a replica's, with digits that begin with the prefix.
 fn is_paged(name: &Name, prefix: &[u8]) -> bool
     ensures { result ≡ machine.is_paged prefix.now name.now }
 {
@@ -307,6 +315,7 @@ fn is_paged(name: &Name, prefix: &[u8]) -> bool
     begins(&name.digest, prefix)
 }
 
+// Whether the digits begin with the prefix.
 fn begins(digest: &Digest, prefix: &[u8]) -> bool
     ensures { result ≡ machine.begins prefix.now digest.now }
 {
@@ -315,6 +324,7 @@ fn begins(digest: &Digest, prefix: &[u8]) -> bool
     &digits[..wanted] == prefix
 }
 
+// The 32 hexadecimal digits.
 fn digits_of(digest: &Digest) -> [u8; 32]
     ensures { result ≡ encode_lower digest.now }
 {

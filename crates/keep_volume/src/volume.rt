@@ -1,6 +1,7 @@
 // A device over a store.
 ghost use Rattle.std.specs.Prelude.{◌≡◌, ◌↔◌, ◌≤◌, IsTrue, option_copied, [], true, false, IfOk, IsOk, IfSome, Some, None, option_map, max, map, sum_by, IfErr, ◌+◌, ◌<◌, ◌^◌, slice_get};
 ghost use Rattle.md5.specs.Md5.{md5};
+ghost use Rattle.keep_spec.specs.Times.{IsReading};
 ghost use Rattle.keep_event.specs.Device as machine;
 ghost use Rattle.keep_event.specs.Store as store;
 ghost use Rattle.keep_event.specs.Store.{find, size_of, sized};
@@ -143,12 +144,12 @@ impl<S: Store> Volume<S> {
     /// Makes the call that the query names. The reading is the clock's, in nanoseconds since 1970 and below 4·10^18.
     /// The answer and the state afterwards are the line of the device machine on what the store tells. StoreFault replaces it only where the store's count of faults rose, and then nothing has changed; nothing changes at NoMemory either. Lists are copied. Only a query that reads or writes bytes, a page, and lists may want memory.
     pub fn step(&mut self, reading: u64, query: &DeviceQuery) -> Result<DeviceAnswer, NoMemory>
-        requires { reading < 4000000000000000000 }
+        requires { IsReading reading }
         ensures line { IsLine (machine.step self.old.rules reading query.now) self.old self.new result }
         ensures may_fault { result ≡ Ok DeviceAnswer.StoreFault → machine.may_fault query.now ≡ true }
         ensures read_only { is_refused query.now ≡ true → HasReadOnly self.old self.new result }
         ensures stale { HasStaleRound query.now self.old self.new result }
-        ensures sure { takes_memory query.now ≡ false → IsOk result }
+        ensures memory { takes_memory query.now ≡ false → IsOk result }
     {
         match query {
             DeviceQuery::CompareTouch { block, token } => {
@@ -260,7 +261,7 @@ impl<S: Store> Volume<S> {
     ) -> Result<DeviceAnswer, NoMemory>
         ensures line { IsLine (machine.touch self.old.rules digest.now reading) self.old self.new result }
         ensures read_only { HasReadOnly self.old self.new result }
-        ensures sure { IsOk result }
+        ensures takes_no_memory { IsOk result }
     {
         if self.rules.read_only {
             return Ok(DeviceAnswer::ReadOnly);
@@ -279,9 +280,9 @@ impl<S: Store> Volume<S> {
     /// Keeps the round and empties both lists. Below the kept round the answer is Stale, whatever the store does. It takes no memory.
     pub fn clear(&mut self, _reading: u64, round: u64) -> Result<DeviceAnswer, NoMemory>
         ensures line { IsLine (machine.clear round) self.old self.new result }
-        ensures anyway { IsLineAnyway (machine.clear round) self.old self.new result }
+        ensures whatever_is_told { IsLineAnyway (machine.clear round) self.old self.new result }
         ensures stale { HasLowerStale round self.old self.new result }
-        ensures sure { IsOk result }
+        ensures takes_no_memory { IsOk result }
     {
         if round < self.round {
             return Ok(DeviceAnswer::Stale { held: self.round });
@@ -304,7 +305,7 @@ impl<S: Store> Volume<S> {
         ensures line { IsLine (machine.accept round lists) self.old self.new result }
         ensures exact { IsExactly (machine.accept round lists) self.old self.new result }
         ensures no_fault { result ≡ Ok DeviceAnswer.StoreFault → ⊥ }
-        ensures sure { IsOk result }
+        ensures takes_no_memory { IsOk result }
     {
         if round != self.round {
             return Ok(DeviceAnswer::Stale { held: self.round });
@@ -339,10 +340,10 @@ impl<S: Store> Volume<S> {
     /// Takes the first item of the trash list. The replica becomes a trashed copy where its time is the item's and the reading is above that time plus the grace; the copy's deadline is the reading plus the trash life. It takes no memory. After StoreFault the item is still the first.
     /// Condition: the reading is below 4·10^18.
     pub fn trash_next(&mut self, reading: u64) -> Result<DeviceAnswer, NoMemory>
-        requires { reading < 4000000000000000000 }
+        requires { IsReading reading }
         ensures line { IsLine (machine.trash_next self.old.rules reading) self.old self.new result }
         ensures idle { HasIdle self.old self.new result }
-        ensures sure { IsOk result }
+        ensures takes_no_memory { IsOk result }
     {
         let Some(item) = self.first_trash() else {
             return Ok(DeviceAnswer::Idle);
@@ -361,7 +362,7 @@ impl<S: Store> Volume<S> {
         ensures line { IsLine machine.pull_next self.old self.new result }
         ensures exact { IsExactly machine.pull_next self.old self.new result }
         ensures no_fault { result ≡ Ok DeviceAnswer.StoreFault → ⊥ }
-        ensures sure { IsOk result }
+        ensures takes_no_memory { IsOk result }
     {
         let Some(item) = self.pull.pop_front() else {
             return Ok(DeviceAnswer::Idle);
@@ -373,7 +374,7 @@ impl<S: Store> Volume<S> {
     pub fn untrash(&mut self, reading: u64, digest: &Digest) -> Result<DeviceAnswer, NoMemory>
         ensures line { IsLine (machine.untrash self.old.rules digest.now reading) self.old self.new result }
         ensures read_only { HasReadOnly self.old self.new result }
-        ensures sure { IsOk result }
+        ensures takes_no_memory { IsOk result }
     {
         if self.rules.read_only {
             return Ok(DeviceAnswer::ReadOnly);
@@ -396,7 +397,7 @@ impl<S: Store> Volume<S> {
     pub fn empty_next(&mut self, reading: u64) -> Result<DeviceAnswer, NoMemory>
         ensures line { IsLine (machine.empty_next self.old.rules reading) self.old self.new result }
         ensures read_only { HasReadOnly self.old self.new result }
-        ensures sure { IsOk result }
+        ensures takes_no_memory { IsOk result }
     {
         if self.rules.read_only {
             return Ok(DeviceAnswer::ReadOnly);
@@ -417,7 +418,7 @@ impl<S: Store> Volume<S> {
         ensures line { IsLine machine.restart self.old self.new result }
         ensures exact { IsExactly machine.restart self.old self.new result }
         ensures no_fault { result ≡ Ok DeviceAnswer.StoreFault → ⊥ }
-        ensures sure { IsOk result }
+        ensures takes_no_memory { IsOk result }
     {
         self.drop_lists();
         Ok(DeviceAnswer::Restarted)
@@ -527,7 +528,7 @@ impl<S: Store> Volume<S> {
 
     // Does what the first item of the trash list asks for, and leaves the list as it is.
     fn trash_item(&mut self, reading: u64, item: TrashItem) -> Result<DeviceAnswer, Failed>
-        requires { reading < 4000000000000000000 }
+        requires { IsReading reading }
         ensures item { IsItem (machine.trash_item self.old.rules item reading) self.old self.new result }
         ensures busy { result ≡ Ok DeviceAnswer.Idle → ⊥ }
     {

@@ -14,12 +14,12 @@ pub returns-clause-line : goal.returns-clause-line
 returns-clause-line g c = rw (c.drop_lists.ensures, ← c.self.view_is)
     (becomes-line _ _ _ c.set_note.ensures.cause.later refl Cleared (λ es. es) (c.set_note.ensures.same ∙ option_map-same _) (told-all (g.S.Store.held c.self.inside.store) (λ es. clear-done c.args.round _ (search rules))) (λ e. cc e))
 
-pub returns-then-round-self-clause-anyway : goal.returns-then-round-self-clause-anyway
-returns-then-round-self-clause-anyway g c = rw (← c.self.view_is) (λ es.
+pub returns-then-round-self-clause-whatever_is_told : goal.returns-then-round-self-clause-whatever_is_told
+returns-then-round-self-clause-whatever_is_told g c = rw (← c.self.view_is) (λ es.
     let s : State = record { held = es; round = c.self.inside.round; trash = drop c.self.inside.trash_done c.self.inside.trash.items; pull = c.self.inside.pull.items } in
     anyway-at (machine.clear c.args.round) s s (Stale c.self.inside.round) (clear-stale c.args.round s (search rules)))
 
-pub returns-clause-anyway : goal.returns-clause-anyway
-returns-clause-anyway g c = rw (c.drop_lists.ensures, ← c.self.view_is) (λ es.
+pub returns-clause-whatever_is_told : goal.returns-clause-whatever_is_told
+returns-clause-whatever_is_told g c = rw (c.drop_lists.ensures, ← c.self.view_is) (λ es.
     let s : State = record { held = es; round = c.self.inside.round; trash = drop c.self.inside.trash_done c.self.inside.trash.items; pull = c.self.inside.pull.items } in
     anyway-at (machine.clear c.args.round) s (record { held = es; round = c.args.round; trash = []; pull = [] }) Cleared (clear-done c.args.round s (search rules)))
