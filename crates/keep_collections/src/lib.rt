@@ -5,8 +5,6 @@ mod queries;
 mod request;
 mod row;
 mod signed;
-#[cfg(test)]
-mod tests;
 mod uuid;
 
 pub use keep_event::{SaveRequest, TableAnswer, TableQuery};
