@@ -1,96 +1,130 @@
 // What the program answers to a case, in the form in which a case says what is expected.
-use crate::error::OutOfMemory;
-use hex::encode;
+use itoa::Buffer;
 use std::alloc::Global;
 
-/// The lines of an answer: `<` before what a call returned or printed, `=` before what is left behind.
+/// The lines of an answer: `<` before what a call returned or printed, `=` before what is said beside it. A line is put together by `text` and `number`, and
+/// ended by `end` or `note`. Where memory is refused the answer is cut short and says so, so that no other call has to.
 #[derive(Drop)]
 pub struct Answer {
-    text: Vec<u8>,
-    alloc: Global,
+    lines: Vec<u8>,
+    line: Vec<u8>,
+    is_cut: bool,
 }
 
 impl Answer {
     pub fn new(alloc: Global) -> Answer {
         Answer {
-            text: Vec::new(alloc),
-            alloc,
+            lines: Vec::new(alloc),
+            line: Vec::new(alloc),
+            is_cut: false,
         }
     }
 
+    /// All lines; one that no case expects where memory was refused.
     pub fn lines(&self) -> &str {
-        std::str::from_utf8(&self.text).unwrap_or("")
-    }
-
-    /// A line of what was returned.
-    pub fn line(&mut self, text: &str) -> Result<(), OutOfMemory> {
-        self.piece(text.as_bytes(), true)
-    }
-
-    /// A line of what was returned, from its parts.
-    pub fn parts(&mut self, parts: &[&[u8]]) -> Result<(), OutOfMemory> {
-        let mut line = Vec::new(self.alloc);
-        for part in parts {
-            line.extend_from_slice(part)?;
-        }
-        self.value(&line)
-    }
-
-    /// A value that was returned: one line; in hexadecimal digits where it has a newline or is no UTF-8.
-    pub fn value(&mut self, text: &[u8]) -> Result<(), OutOfMemory> {
-        if text.contains(&b'\n') {
-            self.hexadecimal(text)
+        if self.is_cut {
+            "no memory"
         } else {
-            self.piece(text, true)
+            std::str::from_utf8(&self.lines).unwrap_or("")
         }
     }
 
-    // A line of hexadecimal digits.
-    fn hexadecimal(&mut self, text: &[u8]) -> Result<(), OutOfMemory> {
-        let digits = hex::encode(self.alloc, text)?;
-        self.text.extend_from_slice(b"<x ")?;
-        self.text.extend_from_slice(digits.as_bytes())?;
-        self.text.push(b'\n')?;
-        Ok(())
+    /// Memory was refused to a call that the case made.
+    pub fn cut(&mut self) {
+        self.is_cut = true;
     }
 
-    /// A line of what is left behind.
-    pub fn fact(&mut self, text: &str) -> Result<(), OutOfMemory> {
-        self.text.extend_from_slice(b"= ")?;
-        self.text.extend_from_slice(text.as_bytes())?;
-        self.text.push(b'\n')?;
-        Ok(())
+    fn add(&mut self, bytes: &[u8]) {
+        if self.lines.extend_from_slice(bytes).is_err() {
+            self.is_cut = true;
+        }
+    }
+
+    pub fn text(&mut self, bytes: &[u8]) {
+        if self.line.extend_from_slice(bytes).is_err() {
+            self.is_cut = true;
+        }
+    }
+
+    pub fn number(&mut self, number: u64) {
+        let mut buffer = Buffer::new();
+        self.text(buffer.format(number).as_bytes());
+    }
+
+    pub fn hexadecimal(&mut self, bytes: &[u8]) {
+        for byte in bytes {
+            self.text(&[digit(byte / 16), digit(byte % 16)]);
+        }
+    }
+
+    /// Ends a line of what was returned.
+    pub fn end(&mut self) {
+        self.flush(b"<");
+    }
+
+    /// Ends a line of what is said beside it.
+    pub fn note(&mut self) {
+        self.flush(b"=");
+    }
+
+    /// A value that was returned: one line.
+    pub fn value(&mut self, bytes: &[u8]) {
+        self.text(bytes);
+        self.end();
     }
 
     /// A text that was returned or printed, line by line; a last line without a newline is marked as such.
-    pub fn output(&mut self, text: &[u8]) -> Result<(), OutOfMemory> {
-        let mut rest = text;
-        while let Some(at) = rest.iter().position(|byte| *byte == b'\n') {
-            let (line, others) = rest.split_at_checked(at).unwrap_or((rest, b""));
-            self.piece(line, true)?;
-            rest = others.get(1..).unwrap_or(b"");
-        }
-        if rest.is_empty() {
-            Ok(())
-        } else {
-            self.piece(rest, false)
+    pub fn output(&mut self, text: &[u8]) {
+        for piece in text.split_inclusive(|byte| *byte == b'\n') {
+            match piece.strip_suffix(b"\n") {
+                Some(line) => self.value(line),
+                None => {
+                    self.text(piece);
+                    self.flush(b"<<");
+                }
+            }
         }
     }
 
-    // A line, or a part of one; in hexadecimal digits where it is no UTF-8.
-    fn piece(&mut self, text: &[u8], is_whole: bool) -> Result<(), OutOfMemory> {
-        if std::str::from_utf8(text).is_err() {
-            return self.hexadecimal(text);
+    // Writes the line behind its mark; in hexadecimal digits where it has a control character or is no UTF-8.
+    fn flush(&mut self, mark: &[u8]) {
+        self.add(mark);
+        if is_plain(&self.line) {
+            self.add_plain();
+        } else {
+            self.add_hexadecimal();
         }
-        let mark: &[u8] = if is_whole { b"<" } else { b"<<" };
-        self.text.extend_from_slice(mark)?;
-        if !text.is_empty() {
-            self.text.push(b' ')?;
-            self.text.extend_from_slice(text)?;
-        }
-        self.text.push(b'\n')?;
-        Ok(())
+        self.add(b"\n");
+        self.line.clear();
     }
+
+    fn add_plain(&mut self) {
+        if !self.line.is_empty() {
+            self.add(b" ");
+            if self.lines.extend_from_slice(&self.line).is_err() {
+                self.is_cut = true;
+            }
+        }
+    }
+
+    fn add_hexadecimal(&mut self) {
+        self.add(b"x ");
+        for i in 0..self.line.len() {
+            let byte = self.line.get(i).copied().unwrap_or(0);
+            self.add(&[digit(byte / 16), digit(byte % 16)]);
+        }
+    }
+}
+
+fn is_plain(text: &[u8]) -> bool {
+    std::str::from_utf8(text).is_ok() && !text.iter().any(|byte| *byte < 32 || *byte == 127)
+}
+
+fn digit(value: u8) -> u8 {
+    b"0123456789abcdef"
+        .get(value as usize)
+        .copied()
+        .unwrap_or(b'?')
 }
 
 /// The first lines in which two texts differ; `nothing` stands for a line that isn't there.
@@ -102,5 +136,8 @@ pub fn first_difference<'a>(wanted: &'a str, given: &'a str) -> Option<(&'a str,
             return Some((line, other));
         }
     }
-    given_lines.next().map(|other| ("nothing", other))
+    match given_lines.next() {
+        Some(other) => Some(("nothing", other)),
+        None => None,
+    }
 }

@@ -1,13 +1,12 @@
 // A file of cases: its lines, and what they say. README.md has the form.
 use crate::error::OutOfMemory;
-use hex::FromHex;
 use std::alloc::Global;
 
-// A word at the head of a line, and the rest of that line.
-#[derive(Drop)]
-struct Setting<'a> {
-    key: &'a str,
-    value: &'a str,
+/// A word at the head of a line, and the rest of that line.
+#[derive(Clone, Copy)]
+pub struct Setting<'a> {
+    pub key: &'a str,
+    pub value: &'a str,
 }
 
 /// A case: its name, its settings, its input, and the lines that are expected. A text is no case, but lends its input to those that include it.
@@ -31,6 +30,16 @@ impl<'a> Case<'a> {
         }
     }
 
+    fn duplicate(&self, alloc: Global) -> Result<Case<'a>, OutOfMemory> {
+        Ok(Case {
+            name: self.name,
+            is_text: self.is_text,
+            settings: Vec::from_slice(alloc, &self.settings)?,
+            input: Vec::from_slice(alloc, &self.input)?,
+            expected: self.expected.clone()?,
+        })
+    }
+
     /// Whether it is a text, which has no answer.
     pub fn is_text(&self) -> bool {
         self.is_text
@@ -40,16 +49,9 @@ impl<'a> Case<'a> {
         &self.input
     }
 
-    /// The lines of the input, without their newlines; a last one may have none.
-    pub fn lines(&self, alloc: Global) -> Result<Vec<&[u8]>, OutOfMemory> {
-        let mut lines = Vec::new(alloc);
-        for line in self.input.split(|byte| *byte == b'\n') {
-            lines.push(line)?;
-        }
-        if self.input.last() == Some(&b'\n') {
-            let _ = lines.pop();
-        }
-        Ok(lines)
+    /// The input without its last newline: lines with newlines between them.
+    pub fn body(&self) -> &[u8] {
+        self.input.strip_suffix(b"\n").unwrap_or(&self.input)
     }
 
     /// The expected lines as they stand in the file.
@@ -57,15 +59,9 @@ impl<'a> Case<'a> {
         self.expected.as_str()
     }
 
-    /// The values of all settings with this key.
-    pub fn values(&self, alloc: Global, key: &str) -> Result<Vec<&'a str>, OutOfMemory> {
-        let mut values = Vec::new(alloc);
-        for setting in &self.settings {
-            if setting.key == key {
-                values.push(setting.value)?;
-            }
-        }
-        Ok(values)
+    /// The keys and values of all settings.
+    pub fn settings(&self) -> &[Setting<'a>] {
+        &self.settings
     }
 
     /// The value of the first setting with this key.
@@ -78,17 +74,6 @@ impl<'a> Case<'a> {
         None
     }
 
-    /// The numbers of the setting with this key, which are separated by blanks.
-    pub fn numbers(&self, alloc: Global, key: &str) -> Result<Vec<u64>, OutOfMemory> {
-        let mut numbers = Vec::new(alloc);
-        for word in self.value(key).unwrap_or("").split_whitespace() {
-            if let Ok(number) = word.parse::<u64>() {
-                numbers.push(number)?;
-            }
-        }
-        Ok(numbers)
-    }
-
     /// The number of the setting with this key, or another one where there is none.
     pub fn number(&self, key: &str, other: u64) -> u64 {
         match self.value(key) {
@@ -96,6 +81,15 @@ impl<'a> Case<'a> {
             None => other,
         }
     }
+}
+
+/// The numbers of a text, which are separated by blanks.
+pub fn numbers_of(alloc: Global, text: &str) -> Result<Vec<u64>, OutOfMemory> {
+    let mut numbers = Vec::new(alloc);
+    for word in text.split_whitespace() {
+        numbers.push(word.parse::<u64>().unwrap_or(0))?;
+    }
+    Ok(numbers)
 }
 
 /// The bytes that hexadecimal digits stand for.
@@ -125,11 +119,11 @@ impl<'a> Book<'a> {
         &self.parts
     }
 
-    // The input of the text with this name.
-    fn text(&self, alloc: Global, name: &str) -> Result<Option<Vec<u8>>, OutOfMemory> {
+    // A copy of the text with this name.
+    fn text(&self, alloc: Global, name: &str) -> Result<Option<Case<'a>>, OutOfMemory> {
         for part in &self.parts {
             if part.is_text && part.name == name {
-                return Ok(Some(Vec::from_slice(alloc, &part.input)?));
+                return Ok(Some(part.duplicate(alloc)?));
             }
         }
         Ok(None)
@@ -148,20 +142,26 @@ impl<'a> Book<'a> {
             self.parts.push(Case::new(alloc, name, true))?;
             return Ok(true);
         }
-        let included = match line.strip_prefix("include ") {
-            Some(name) => self.text(alloc, name)?,
-            None => None,
+        if let Some(name) = line.strip_prefix("include ") {
+            return self.include(alloc, name);
+        }
+        match self.parts.last_mut() {
+            Some(part) => add_to(alloc, part, line),
+            None => Ok(false),
+        }
+    }
+
+    // Takes the text with this name into the last part. False: there is none.
+    fn include(&mut self, alloc: Global, name: &str) -> Result<bool, OutOfMemory> {
+        let Some(text) = self.text(alloc, name)? else {
+            return Ok(false);
         };
         let Some(part) = self.parts.last_mut() else {
             return Ok(false);
         };
-        match included {
-            Some(text) => {
-                part.input.extend_from_slice(&text)?;
-                Ok(true)
-            }
-            None => add_to(alloc, part, line),
-        }
+        part.input.extend_from_slice(&text.input)?;
+        part.settings.extend_from_slice(&text.settings)?;
+        Ok(true)
     }
 }
 
@@ -182,38 +182,37 @@ fn add_to<'a>(alloc: Global, part: &mut Case<'a>, line: &'a str) -> Result<bool,
 
 // Takes a line of input.
 fn add_input(alloc: Global, input: &mut Vec<u8>, line: &str) -> Result<bool, OutOfMemory> {
+    let mut bytes: Option<Vec<u8>> = None;
     if let Some(digits) = line.strip_prefix(">x ") {
-        return add_hex(alloc, input, digits, 1);
+        bytes = bytes_of_hex(alloc, digits)?;
+    } else if let Some(value) = line.strip_prefix(">* ") {
+        bytes = repeated(alloc, value)?;
+    } else if let Some(text) = line.strip_prefix(">> ") {
+        bytes = Some(Vec::from_slice(alloc, text.as_bytes())?);
+    } else if let Some(text) = line.strip_prefix("> ") {
+        bytes = Some(Vec::from_slice(alloc, text.as_bytes())?);
+    } else if line == ">" {
+        bytes = Some(Vec::new(alloc));
     }
-    if let Some(rest) = line.strip_prefix(">* ") {
-        let (times, digits) = rest.split_once(' ').unwrap_or((rest, ""));
-        return add_hex(alloc, input, digits, times.parse::<u32>().unwrap_or(0));
+    let Some(bytes) = bytes else {
+        return Ok(false);
+    };
+    input.extend_from_slice(&bytes)?;
+    if line == ">" || line.starts_with("> ") {
+        input.push(b'\n')?;
     }
-    if let Some(text) = line.strip_prefix(">> ") {
-        input.extend_from_slice(text.as_bytes())?;
-        return Ok(true);
-    }
-    match line.strip_prefix("> ") {
-        Some(text) => input.extend_from_slice(text.as_bytes())?,
-        None if line == ">" => {}
-        None => return Ok(false),
-    }
-    input.push(b'\n')?;
     Ok(true)
 }
 
-// Adds the bytes of hexadecimal digits, so many times.
-fn add_hex(
-    alloc: Global,
-    input: &mut Vec<u8>,
-    digits: &str,
-    times: u32,
-) -> Result<bool, OutOfMemory> {
-    let Some(bytes) = bytes_of_hex(alloc, digits)? else {
-        return Ok(false);
+/// The bytes of `TIMES DIGITS`.
+pub fn repeated(alloc: Global, value: &str) -> Result<Option<Vec<u8>>, OutOfMemory> {
+    let (times, digits) = value.split_once(' ').unwrap_or((value, ""));
+    let Some(piece) = bytes_of_hex(alloc, digits)? else {
+        return Ok(None);
     };
-    for _ in 0..times {
-        input.extend_from_slice(&bytes)?;
+    let mut bytes = Vec::new(alloc);
+    for _ in 0..times.parse::<u32>().unwrap_or(0) {
+        bytes.extend_from_slice(&piece)?;
     }
-    Ok(true)
+    Ok(Some(bytes))
 }

@@ -1,62 +1,48 @@
-// Configurations, one a line: `ok`, or the first bad field. A line that doesn't begin with `{` changes the configuration of the settings `base FIELD VALUE` (of
-// two with one field the last counts): `FIELD VALUE` gives a field this value, or adds it, and `FIELD` alone leaves it out. In a base's value `list N MEMBER` is a
-// list of N members, where `#` stands for 15 digits of the member's number and `@` for that number modulo 64, and `repeat N PIECE` is a text of N pieces.
-// With the setting `show` each field of a configuration, and what follows from it, is told.
+// Configurations, one a line: `ok`, or the first bad field. A line that begins with a letter changes the configuration of the settings `base FIELD VALUE` (of two
+// with one field the last counts): `FIELD VALUE` gives a field this value, or adds it, and `FIELD` alone leaves it out. In a base's value `list N MEMBER` is a list of
+// N members, where `#` stands for 15 digits of the member's number and `@` for that number modulo 64, and `repeat N PIECE` is a text of N pieces.
 use crate::answer::Answer;
-use crate::book::Case;
+use crate::book::{Case, Setting};
 use crate::error::OutOfMemory;
 use keep_config::{Config, ConfigError};
 use std::alloc::Global;
 use std::str::from_utf8;
 
-pub fn answer(alloc: Global, case: &Case, answer: &mut Answer) -> Result<(), OutOfMemory> {
-    for line in case.lines(alloc)? {
-        match from_utf8(line) {
-            Ok(change) if is_change(change) => {
-                let text = changed(alloc, case, change)?;
-                answer_text(alloc, case, text.as_bytes(), answer)?;
-            }
-            _ => answer_text(alloc, case, line, answer)?,
+pub fn answer(alloc: Global, case: &Case, answer: &mut Answer) {
+    for line in case.body().split(|byte| *byte == b'\n') {
+        if !begins_with_letter(line) {
+            answer_text(alloc, line, answer);
+            continue;
+        }
+        match changed(alloc, case.settings(), from_utf8(line).unwrap_or("")) {
+            Ok(text) => answer_text(alloc, text.as_bytes(), answer),
+            Err(_) => answer.cut(),
         }
     }
-    Ok(())
 }
 
-// Whether a line changes the base: it begins with a letter.
-fn is_change(line: &str) -> bool {
-    match line.as_bytes().first() {
+fn begins_with_letter(line: &[u8]) -> bool {
+    match line.first() {
         Some(byte) => byte.is_ascii_lowercase(),
         None => false,
     }
 }
 
-fn answer_text(
-    alloc: Global,
-    case: &Case,
-    text: &[u8],
-    answer: &mut Answer,
-) -> Result<(), OutOfMemory> {
+fn answer_text(alloc: Global, text: &[u8], answer: &mut Answer) {
     match Config::read(alloc, text) {
-        Ok(config) => {
-            answer.line("ok")?;
-            if case.value("show").is_some() {
-                answer_config(alloc, case, &config, answer)?;
-            }
-            Ok(())
-        }
-        Err(ConfigError::BadConfig { field }) => answer.line(field.name()),
-        Err(ConfigError::NoMemory) => Err(OutOfMemory),
+        Ok(_) => answer.value(b"ok"),
+        Err(ConfigError::BadConfig { field }) => answer.value(field.name().as_bytes()),
+        Err(ConfigError::NoMemory) => answer.cut(),
     }
 }
 
 // The base's text with a change.
-fn changed(alloc: Global, case: &Case, change: &str) -> Result<String, OutOfMemory> {
+fn changed(alloc: Global, settings: &[Setting], change: &str) -> Result<String, OutOfMemory> {
     let (field, value) = change.split_once(' ').unwrap_or((change, ""));
-    let bases = case.values(alloc, "base")?;
     let mut text = String::from_str(alloc, "{")?;
-    for (i, base) in bases.iter().enumerate() {
-        let (name, value) = base.split_once(' ').unwrap_or((base, ""));
-        let others = bases.get(i.saturating_add(1)..).unwrap_or(&[]);
+    for (i, setting) in settings.iter().enumerate() {
+        let (name, value) = setting.value.split_once(' ').unwrap_or(("", ""));
+        let others = settings.get(i.saturating_add(1)..).unwrap_or(&[]);
         if name != field && !is_named(others, name) {
             add_member(alloc, &mut text, name, value)?;
         }
@@ -68,10 +54,9 @@ fn changed(alloc: Global, case: &Case, change: &str) -> Result<String, OutOfMemo
     Ok(text)
 }
 
-fn is_named(bases: &[&str], name: &str) -> bool {
-    for base in bases {
-        let (other, _) = base.split_once(' ').unwrap_or((base, ""));
-        if other == name {
+fn is_named(settings: &[Setting], name: &str) -> bool {
+    for setting in settings {
+        if setting.value.split_once(' ').unwrap_or(("", "")).0 == name {
             return true;
         }
     }
@@ -121,76 +106,5 @@ fn add_repeated(text: &mut String, rest: &str) -> Result<(), OutOfMemory> {
         text.push_str(piece)?;
     }
     text.push_str("\"")?;
-    Ok(())
-}
-
-// The fields of a configuration, and what follows from them.
-fn answer_config(
-    alloc: Global,
-    case: &Case,
-    config: &Config,
-    answer: &mut Answer,
-) -> Result<(), OutOfMemory> {
-    answer.parts(&[b"cluster ", config.cluster.as_slice()])?;
-    let (ttl, skew) = (config.ttl, config.skew);
-    answer.line(format!(in alloc; "ttl {ttl}, skew {skew}")?.as_str())?;
-    answer.parts(&[b"secret ", config.secret.as_slice()])?;
-    answer.parts(&[b"system token ", config.system_token.as_slice()])?;
-    answer_places(alloc, config, answer)?;
-    let (versions, life) = (config.versions, config.trash_life);
-    answer.line(format!(in alloc; "versions {versions}, trash life {life}")?.as_str())?;
-    let (digits, limit) = (config.index_digits, config.scan_limit);
-    answer.line(format!(in alloc; "index digits {digits}, scan limit {limit}")?.as_str())?;
-    let (guard, grace, life) = (
-        config.guard_nanos(),
-        config.grace_nanos(),
-        config.trash_life_nanos(),
-    );
-    answer.line(format!(in alloc; "guard {guard}, grace {grace}, life {life}")?.as_str())?;
-    for start in case.numbers(alloc, "starts")? {
-        let threshold = config.threshold(start);
-        answer.line(format!(in alloc; "threshold of {start}: {threshold}")?.as_str())?;
-    }
-    answer_tokens(alloc, case, config, answer)
-}
-
-// Devices, servers with their devices, and mounts.
-fn answer_places(alloc: Global, config: &Config, answer: &mut Answer) -> Result<(), OutOfMemory> {
-    for device in config.devices.as_slice() {
-        let (capacity, read_only) = (device.capacity, device.read_only);
-        answer.line(format!(in alloc; "device {capacity}, read only {read_only}")?.as_str())?;
-    }
-    for (i, server) in config.servers.as_slice().iter().enumerate() {
-        answer.parts(&[b"server ", server.uuid.as_bytes()])?;
-        for address in server.addresses.as_slice() {
-            answer.parts(&[b"address ", address.as_slice()])?;
-        }
-        let devices = config.devices_of(alloc, u32::try_from(i).unwrap_or(u32::MAX))?;
-        answer.line(format!(in alloc; "its devices {devices:?}")?.as_str())?;
-    }
-    for mount in config.mounts.as_slice() {
-        let (server, device) = (mount.server, mount.device);
-        let rest = format!(in alloc; " server {server} device {device}")?;
-        answer.parts(&[b"mount ", mount.uuid.as_bytes(), rest.as_bytes()])?;
-    }
-    Ok(())
-}
-
-// The numbers of the tokens that the case names, and the texts of these numbers.
-fn answer_tokens(
-    alloc: Global,
-    case: &Case,
-    config: &Config,
-    answer: &mut Answer,
-) -> Result<(), OutOfMemory> {
-    for text in case.values(alloc, "token")? {
-        match config.token(text.as_bytes()) {
-            Some(token) => {
-                let number = token.number;
-                answer.line(format!(in alloc; "token {text} is {number}")?.as_str())?;
-            }
-            None => answer.line(format!(in alloc; "token {text} is unknown")?.as_str())?,
-        }
-    }
     Ok(())
 }

@@ -1,30 +1,86 @@
-// Runs: the input is a configuration and script lines. Settings: `words` (`run` where there is none), `stores` (how many, 1), `held STORE DIGEST DEADLINE MTIME
-// BYTES` (what a store holds before, `-` for no deadline), `store_fails`, `source_fails`, `sink_fails` (the numbers of the calls that fail, of each store).
-// The answer is what is printed, and then the status, and of each store its note, where it isn't 0, and what it holds, in the form of `held`.
+// Runs. `runs`: the input is a configuration and script lines. The answer is what is printed, then the exit status and its words, and then what the stores hold.
+// `commands`: the input is a configuration and script lines, an empty line, and lines that are tried one by one, each as the next line of that script. The answer is
+// what the line prints, and `taken`, or `refused` where it is no script line.
+// Settings: `words` (`run` where there is none), `stores` (how many, 1), `held NUMBER ..` (what the store with this number holds before), `note NUMBER ROUND`,
+// `store_fails`, `source_fails`, `sink_fails` (the numbers of the calls that fail, of each store).
 use crate::answer::Answer;
-use crate::book::{Case, bytes_of_hex};
+use crate::book::{Case, numbers_of};
 use crate::error::OutOfMemory;
+use crate::statuses::add_status;
+use crate::stores::{answer_store, put_held};
 use keep_base::{ByteSink, ByteSource};
-use keep_event::{Held, Name};
 use keep_run::run_call;
-use keep_spec::{Bytes, Digest, Status};
-use keep_store::{MemoryStore, Store, StoreError};
+use keep_spec::{Bytes, Status};
+use keep_store::{MemoryStore, Store};
 use std::alloc::Global;
-use std::str::from_utf8;
 
-pub fn answer(alloc: Global, case: &Case, answer: &mut Answer) -> Result<(), OutOfMemory> {
-    let words = words_of(alloc, case)?;
-    let input = Bytes::of(Vec::from_slice(alloc, case.input())?);
-    let mut source = ByteSource::new(input, case.numbers(alloc, "source_fails")?);
-    let mut sink = ByteSink::new(alloc, case.numbers(alloc, "sink_fails")?);
-    let mut stores = stores_of(alloc, case)?;
-    let status = run_call(alloc, words.as_slice(), &mut source, &mut sink, &mut stores);
-    answer.output(sink.bytes())?;
-    answer.fact(format!(in alloc; "{status:?}")?.as_str())?;
-    for (i, store) in stores.iter_mut().enumerate() {
-        answer_store(alloc, i, store, answer)?;
+// A run that has ended.
+#[derive(Drop)]
+struct Ran {
+    status: Status,
+    sink: ByteSink,
+    stores: Vec<MemoryStore>,
+}
+
+pub fn answer(alloc: Global, case: &Case, answer: &mut Answer) {
+    let Ok(ran) = run(alloc, case, case.input(), b"") else {
+        return answer.cut();
+    };
+    answer.output(ran.sink.bytes());
+    add_status(alloc, ran.status, answer);
+    answer.note();
+    let mut number: u64 = 0;
+    for mut store in ran.stores {
+        answer_store(number, &mut store, answer);
+        number = number.saturating_add(1);
     }
-    Ok(())
+}
+
+pub fn answer_commands(alloc: Global, case: &Case, answer: &mut Answer) {
+    let (before, lines) = split_at_empty_line(case.body());
+    let Ok(ran) = run(alloc, case, before, b"") else {
+        return answer.cut();
+    };
+    let printed = ran.sink.bytes().len();
+    for line in lines.split(|byte| *byte == b'\n') {
+        match run(alloc, case, before, line) {
+            Ok(ran) => {
+                answer.output(ran.sink.bytes().get(printed..).unwrap_or(b""));
+                let is_taken = ran.status == Status::Done;
+                answer.text(if is_taken { "taken" } else { "refused" }.as_bytes());
+                answer.end();
+            }
+            Err(_) => answer.cut(),
+        }
+    }
+}
+
+// The lines before the first empty line, and those behind it.
+fn split_at_empty_line(text: &[u8]) -> (&[u8], &[u8]) {
+    for (at, pair) in text.windows(2).enumerate() {
+        if pair == b"\n\n".as_slice() {
+            let before = text.get(..at.saturating_add(1)).unwrap_or(b"");
+            return (before, text.get(at.saturating_add(2)..).unwrap_or(b""));
+        }
+    }
+    (text, b"")
+}
+
+fn run(alloc: Global, case: &Case, before: &[u8], line: &[u8]) -> Result<Ran, OutOfMemory> {
+    let words = words_of(alloc, case)?;
+    let mut input = Vec::from_slice(alloc, before)?;
+    input.extend_from_slice(line)?;
+    let source_fails = numbers_of(alloc, case.value("source_fails").unwrap_or(""))?;
+    let sink_fails = numbers_of(alloc, case.value("sink_fails").unwrap_or(""))?;
+    let mut stores = stores_of(alloc, case)?;
+    let mut source = ByteSource::new(Bytes::of(input), source_fails);
+    let mut sink = ByteSink::new(alloc, sink_fails);
+    let status = run_call(alloc, words.as_slice(), &mut source, &mut sink, &mut stores);
+    Ok(Ran {
+        status,
+        sink,
+        stores,
+    })
 }
 
 fn words_of(alloc: Global, case: &Case) -> Result<Vec<String>, OutOfMemory> {
@@ -39,71 +95,30 @@ fn words_of(alloc: Global, case: &Case) -> Result<Vec<String>, OutOfMemory> {
 fn stores_of(alloc: Global, case: &Case) -> Result<Vec<MemoryStore>, OutOfMemory> {
     let mut stores = Vec::new(alloc);
     for _ in 0..case.number("stores", 1).min(64) {
-        stores.push(MemoryStore::new(alloc, case.numbers(alloc, "store_fails")?))?;
+        let fails = numbers_of(alloc, case.value("store_fails").unwrap_or(""))?;
+        stores.push(MemoryStore::new(alloc, fails))?;
     }
-    for value in case.values(alloc, "held")? {
-        let mut words = value.split_whitespace();
-        let number = words.next().unwrap_or("").parse::<usize>().unwrap_or(0);
-        let name = name_of(words.next().unwrap_or(""), words.next().unwrap_or(""));
-        let mtime = words.next().unwrap_or("").parse::<u64>().unwrap_or(0);
-        let bytes = bytes_of_hex(alloc, words.next().unwrap_or(""))?;
-        if let (Some(store), Some(name), Some(bytes)) = (stores.get_mut(number), name, bytes) {
-            let _ = store.put(&name, mtime, &bytes);
+    for setting in case.settings() {
+        let (number, rest) = setting.value.split_once(' ').unwrap_or(("", ""));
+        let number = number.parse::<usize>().unwrap_or(usize::MAX);
+        if let Some(store) = stores.get_mut(number) {
+            prepare(alloc, store, setting.key, rest)?;
         }
     }
     Ok(stores)
 }
 
-// The name with these digits, and a deadline or `-`.
-fn name_of(digits: &str, deadline: &str) -> Option<Name> {
-    Some(Name {
-        digest: Digest::read(digits.as_bytes())?,
-        deadline: deadline.parse::<u64>().ok(),
-    })
-}
-
-// The most names of a store that are told.
-const NAMES: usize = 1000;
-
-fn answer_store(
+// Does to a store what a setting says.
+fn prepare(
     alloc: Global,
-    i: usize,
     store: &mut MemoryStore,
-    answer: &mut Answer,
+    key: &str,
+    value: &str,
 ) -> Result<(), OutOfMemory> {
-    let note = store.note().unwrap_or(u64::MAX);
-    if note != 0 {
-        answer.fact(format!(in alloc; "{i} note {note}")?.as_str())?;
+    if key == "held" {
+        put_held(alloc, store, value)?;
+    } else if key == "note" {
+        let _ = store.set_note(value.parse::<u64>().unwrap_or(0));
     }
-    match store.names_from(None, NAMES) {
-        Ok(names) => {
-            for held in &names {
-                answer_held(alloc, i, store, held, answer)?;
-            }
-            Ok(())
-        }
-        Err(StoreError::Failed) => answer.fact(format!(in alloc; "{i} fails")?.as_str()),
-        Err(StoreError::NoMemory) => Err(OutOfMemory),
-    }
-}
-
-fn answer_held(
-    alloc: Global,
-    i: usize,
-    store: &mut MemoryStore,
-    held: &Held,
-    answer: &mut Answer,
-) -> Result<(), OutOfMemory> {
-    let digits = held.name.digest.write();
-    let digest = from_utf8(&digits).unwrap_or("");
-    let deadline = match held.name.deadline {
-        Some(deadline) => format!(in alloc; "{deadline}")?,
-        None => String::from_str(alloc, "-")?,
-    };
-    let mtime = held.mtime;
-    let bytes = match store.get(&held.name) {
-        Ok(Some(stored)) => hex::encode(alloc, stored.bytes.as_slice())?,
-        _ => String::from_str(alloc, "unreadable")?,
-    };
-    answer.fact(format!(in alloc; "{i} {digest} {deadline} {mtime} {bytes}")?.as_str())
+    Ok(())
 }

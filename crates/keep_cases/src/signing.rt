@@ -2,31 +2,26 @@
 // `token`, `expiry`, `ttl` and `secret`. `verdicts`: each line is a locator, checked for `token`, `ttl` and `secret` at `reading`. `signed`: the input, whole,
 // is a manifest, signed as `signatures` are; with `unsigned`, without its permission hints.
 use crate::answer::Answer;
-use crate::book::{Case, bytes_of_hex};
-use crate::error::OutOfMemory;
+use crate::book::{Case, repeated};
 use crate::manifests::answer_refusal;
 use keep_locator::Locator;
 use keep_sign::{Unverified, hmac, sign, sign_manifest, unsigned_manifest, verify};
 use keep_spec::Digest;
 use std::alloc::Global;
-use std::str::from_utf8;
 
-pub fn answer_mac(alloc: Global, case: &Case, answer: &mut Answer) -> Result<(), OutOfMemory> {
-    let value = case.value("key").unwrap_or("");
-    let (times, digits) = value.split_once(' ').unwrap_or(("0", ""));
-    let piece = bytes_of_hex(alloc, digits)?;
-    let mut key = Vec::new(alloc);
-    for _ in 0..times.parse::<u32>().unwrap_or(0) {
-        if let Some(piece) = &piece {
-            key.extend_from_slice(piece)?;
+pub fn answer_mac(alloc: Global, case: &Case, answer: &mut Answer) {
+    match repeated(alloc, case.value("key").unwrap_or("")) {
+        Ok(Some(key)) => {
+            answer.hexadecimal(&hmac(&key, case.input()));
+            answer.end();
         }
+        Ok(None) => answer.value(b"no key"),
+        Err(_) => answer.cut(),
     }
-    let mac = hmac(&key, case.input());
-    answer.line(hex::encode(alloc, mac.as_slice())?.as_str())
 }
 
 // What the case says of a signature.
-#[derive(Drop)]
+#[derive(Clone, Copy)]
 struct Terms<'a> {
     token: &'a [u8],
     expiry: u32,
@@ -43,60 +38,50 @@ fn terms_of<'a>(case: &Case<'a>) -> Terms<'a> {
     }
 }
 
-pub fn answer_signatures(
-    alloc: Global,
-    case: &Case,
-    answer: &mut Answer,
-) -> Result<(), OutOfMemory> {
+pub fn answer_signatures(case: &Case, answer: &mut Answer) {
     let terms = terms_of(case);
-    for line in case.lines(alloc)? {
+    for line in case.body().split(|byte| *byte == b'\n') {
         match Digest::read(line) {
             Some(digest) => {
                 let signature = sign(&digest, terms.token, terms.expiry, terms.ttl, terms.secret);
-                answer.value(&signature)?;
+                answer.value(&signature);
             }
-            None => answer.fact("not a digest")?,
+            None => answer.value(b"not a digest"),
         }
     }
-    Ok(())
 }
 
-pub fn answer_verdicts(alloc: Global, case: &Case, answer: &mut Answer) -> Result<(), OutOfMemory> {
+pub fn answer_verdicts(case: &Case, answer: &mut Answer) {
     let terms = terms_of(case);
     let reading = case.number("reading", 0);
-    for line in case.lines(alloc)? {
-        let Ok(locator) = Locator::read(line) else {
-            answer.fact("not a locator")?;
-            continue;
-        };
-        match verify(&locator, terms.token, terms.ttl, terms.secret, reading) {
-            Ok(verified) => {
-                let digits = verified.digest.write();
-                let digest = from_utf8(&digits).unwrap_or("");
-                let expiry = verified.expiry;
-                answer.line(format!(in alloc; "valid {digest} {expiry}")?.as_str())?;
-            }
-            Err(refusal) => answer_unverified(alloc, refusal, answer)?,
+    for line in case.body().split(|byte| *byte == b'\n') {
+        match Locator::read(line) {
+            Ok(locator) => answer_verdict(&locator, &terms, reading, answer),
+            Err(_) => answer.value(b"not a locator"),
         }
     }
-    Ok(())
 }
 
-fn answer_unverified(
-    alloc: Global,
-    refusal: Unverified,
-    answer: &mut Answer,
-) -> Result<(), OutOfMemory> {
-    match refusal {
-        Unverified::Missing => answer.line("Missing"),
-        Unverified::Expired { expiry } => answer.line(format!(in alloc;
-            "Expired {expiry}"
-        )?.as_str()),
-        Unverified::Invalid => answer.line("Invalid"),
+fn answer_verdict(locator: &Locator, terms: &Terms, reading: u64, answer: &mut Answer) {
+    match verify(locator, terms.token, terms.ttl, terms.secret, reading) {
+        Ok(verified) => {
+            answer.text(b"valid ");
+            answer.text(&verified.digest.write());
+            answer.text(b" ");
+            answer.number(u64::from(verified.expiry));
+            answer.end();
+        }
+        Err(Unverified::Missing) => answer.value(b"Missing"),
+        Err(Unverified::Expired { expiry }) => {
+            answer.text(b"Expired ");
+            answer.number(u64::from(expiry));
+            answer.end();
+        }
+        Err(Unverified::Invalid) => answer.value(b"Invalid"),
     }
 }
 
-pub fn answer_signed(alloc: Global, case: &Case, answer: &mut Answer) -> Result<(), OutOfMemory> {
+pub fn answer_signed(alloc: Global, case: &Case, answer: &mut Answer) {
     let terms = terms_of(case);
     let text = if case.value("unsigned").is_some() {
         unsigned_manifest(alloc, case.input())
@@ -112,6 +97,6 @@ pub fn answer_signed(alloc: Global, case: &Case, answer: &mut Answer) -> Result<
     };
     match text {
         Ok(text) => answer.output(text.as_slice()),
-        Err(refusal) => answer_refusal(alloc, refusal, answer),
+        Err(refusal) => answer_refusal(refusal, answer),
     }
 }
