@@ -1,5 +1,5 @@
 -- A device over a store that may tell what it holds: the words of its public contracts.
-use Rattle.std.specs.Prelude.{◌≡◌, ◌≢◌, ℕ, ◌<◌, ◌≤◌, List, Option, Some, option_map, IfSome, Result, Ok, Err, ◌⊎◌, ⊤, [], Bool, true, false}
+use Rattle.std.specs.Prelude.{◌≡◌, ◌≢◌, ℕ, ◌<◌, ◌≤◌, List, Option, Some, option_map, IfSome, Result, Ok, Err, ◌⊎◌, ⊤, drop, [], Bool, true, false}
 use Rattle.keep_spec.specs.Causes.{Rose}
 use Rattle.keep_event.specs.Device.{State, Reply, restart}
 use Rattle.keep_event.specs.declared.names.Name.{Name}
@@ -85,6 +85,12 @@ IsLineAnyway line old new result = (es : List (Name × Stored)) → IsToldLine l
 pub record HasReadOnly (old new : Device) (result : Result DeviceAnswer memory.NoMemory) : Type 0 where
   pub given : old.rules.read_only ≡ true → (result ≡ Ok answers.ReadOnly) × (new ≡ old)
   pub only : result ≡ Ok answers.ReadOnly → old.rules.read_only ≡ true
+
+-- a device that is read only takes the first item of its trash list and answers so, whatever its store does
+abbrev pub HasReadOnlyItem : Device → Device → Result DeviceAnswer memory.NoMemory → Type 0
+HasReadOnlyItem old new result =
+    old.rules.read_only ≡ true → old.trash ≢ []
+    → (result ≡ Ok answers.ReadOnly) × (new ≡ record { held = old.held; round = old.round; trash = drop 1 old.trash; pull = old.pull; rules = old.rules; faults = old.faults })
 
 -- a round below the kept one is answered Stale, whatever the store does, and no other
 pub record HasLowerStale (round : ℕ) (old new : Device) (result : Result DeviceAnswer memory.NoMemory) : Type 0 where

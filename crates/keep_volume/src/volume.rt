@@ -6,7 +6,7 @@ ghost use Rattle.keep_event.specs.Device as machine;
 ghost use Rattle.keep_event.specs.Store as store;
 ghost use Rattle.keep_event.specs.Store.{find, size_of, sized};
 ghost use Rattle.std.specs.List.{find as list_find, last_or, filter};
-ghost use Rattle.keep_volume.specs.Calls.{IsLine, IsLineAnyway, IsExactly, HasReadOnly, HasLowerStale, HasStale, HasStaleRound, HasIdle, IsReopened, state_of, Device, over, IsOpened, IsGivenBack, is_refused, takes_memory};
+ghost use Rattle.keep_volume.specs.Calls.{IsLine, IsLineAnyway, IsExactly, HasReadOnly, HasReadOnlyItem, HasLowerStale, HasStale, HasStaleRound, HasIdle, IsReopened, state_of, Device, over, IsOpened, IsGivenBack, is_refused, takes_memory};
 ghost use Rattle.keep_volume.specs.Steps.{IsStoreCall, IsItem, without_first, without_lists};
 ghost use Rattle.keep_store.specs.Causes.{HasStoreCause};
 
@@ -326,6 +326,7 @@ impl<S: Store> Volume<S> {
         prefix: &[u8],
     ) -> Result<DeviceAnswer, NoMemory>
         ensures line { IsLine (machine.page prefix.now round) self.old self.new result }
+        ensures no_fault { result ≡ Ok DeviceAnswer.StoreFault → ⊥ }
         ensures stale { HasStale round self.old self.new result }
     {
         if self.round != round {
@@ -342,6 +343,7 @@ impl<S: Store> Volume<S> {
     pub fn trash_next(&mut self, reading: u64) -> Result<DeviceAnswer, NoMemory>
         requires { IsReading reading }
         ensures line { IsLine (machine.trash_next self.old.rules reading) self.old self.new result }
+        ensures read_only { HasReadOnlyItem self.old self.new result }
         ensures idle { HasIdle self.old self.new result }
         ensures takes_no_memory { IsOk result }
     {
@@ -530,6 +532,7 @@ impl<S: Store> Volume<S> {
     fn trash_item(&mut self, reading: u64, item: TrashItem) -> Result<DeviceAnswer, Failed>
         requires { IsReading reading }
         ensures item { IsItem (machine.trash_item self.old.rules item reading) self.old self.new result }
+        ensures read_only { self.old.rules.read_only ≡ true → (result ≡ Ok DeviceAnswer.ReadOnly) × (self.new ≡ self.old) }
         ensures busy { result ≡ Ok DeviceAnswer.Idle → ⊥ }
     {
         if self.rules.read_only {

@@ -1,7 +1,8 @@
-use Rattle.std.proofs.Common.{refl, rules, ap, Ok, ◌≡◌}
-use Rattle.keep_event.specs.declared.device.DeviceAnswer.TheVariants.{Idle}
+use Rattle.std.proofs.Common.{refl, rules, ap, Ok, ◌≡◌, ◌∙◌}
+use Rattle.keep_event.specs.declared.device.DeviceAnswer.TheVariants.{Idle, ReadOnly}
 use Rattle.keep_event.specs.Device as machine
 use Rattle.keep_volume.specs.Calls.{state_with}
+use Rattle.keep_volume.specs.Steps.{without_first}
 use Rattle.keep_volume.proofs.Lines.{stays-line, taken-line, told-all}
 use Rattle.keep_volume.proofs.Machine.{none-at-first, some-at-first, trash-idle, trash-taken}
 use Rattle.keep_volume.proofs.volume.Volume.trash_next.Goals as goal
@@ -22,3 +23,15 @@ returns-in_default-clause-idle g c = record { given = λ e. (refl, refl); only =
 
 pub returns-in-Ok-clause-idle : goal.returns-in-Ok-clause-idle
 returns-in-Ok-clause-idle g c = record { given = λ e. absurd (some-at-first c.args.self.now.trash c.in-Some.item (search rules) e); only = λ e. absurd (let same : c.in-Ok.answer ≡ Idle = cc e in c.in-Ok.ensures.busy (ap Ok same)) }
+
+pub returns-in_default-clause-read_only : goal.returns-in_default-clause-read_only
+returns-in_default-clause-read_only g c = λ _ busy. absurd (busy (none-at-first c.args.self.now.trash (search rules)))
+
+pub returns-in-Ok-clause-read_only : goal.returns-in-Ok-clause-read_only
+returns-in-Ok-clause-read_only g c = λ only _.
+    let r = c.in-Ok.ensures.read_only only in
+    let same : c.in-Ok.answer ≡ ReadOnly = cc r.0 in
+    (ap Ok same, c.advance.ensures ∙ ap without_first r.1)
+
+pub returns-in-Err-clause-read_only : goal.returns-in-Err-clause-read_only
+returns-in-Err-clause-read_only g c = λ only _. let r = (c.in-Err.ensures.read_only only).0 in cc r
