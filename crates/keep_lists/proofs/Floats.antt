@@ -1,11 +1,10 @@
 -- Lists have no floats, so what is written of them is their text.
 use Rattle.std.proofs.Common.{◌≡◌, ℕ, List, [], ◌∷◌, map, Bool, false, ◌||◌, refl, ◌∙◌, ap}
-use Rattle.serde_json.specs.Data.{Data, Items, no_items, item}
+use Rattle.serde_json.specs.Data.{Data}
 use Rattle.serde_json.specs.View.{items_of}
 use Rattle.serde_json.specs.Written.{has_float, items_have_float}
 use Rattle.keep_spec.specs.Config.{Configuration}
 use Rattle.keep_event.specs.Lists.{first_mount, source_data, trash_item_data, pull_item_data, lists_data}
-use Rattle.keep_event.specs.declared.lists.TrashItem.{TrashItem}
 use Rattle.keep_event.specs.declared.lists.PullItem.{PullItem}
 use Rattle.keep_event.specs.declared.lists.Lists.{Lists}
 

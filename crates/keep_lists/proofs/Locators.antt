@@ -1,5 +1,5 @@
 -- Locators without hints, read part by part.
-use Rattle.std.proofs.Common.{◌≡◌, ◌<◌, ◌≤◌, ◌+◌, ℕ, zero, suc, List, [], ◌∷◌, length, take, drop, Bool, true, false, ◌&&◌, Option, None, Some, if◌then◌else◌, sym, ◌∙◌, ap, subst, refl, arith, slice_index, ◌==◌, cond}
+use Rattle.std.proofs.Common.{◌≡◌, ◌≤◌, ◌+◌, ℕ, zero, suc, List, [], ◌∷◌, length, take, drop, Bool, true, false, ◌&&◌, Option, None, Some, if◌then◌else◌, sym, ◌∙◌, ap, refl, arith, slice_index, ◌==◌}
 use Rattle.std.specs.Prelude.{option_and_then, nat_lt}
 use Rattle.std.specs.List.{position, position_or_len, before_first, after_first}
 use Rattle.std.proofs.lemmas.Bool.{eq-eqb, ne_eqb, ltb-false}
@@ -7,7 +7,6 @@ use Rattle.std.proofs.lemmas.List.{drop_all}
 use Rattle.keep_spec.specs.Digest.{is_digest, bytes_of_digits, digest_of}
 use Rattle.keep_spec.specs.Locator.{is_number, number}
 use Rattle.keep_event.specs.Index.{bare_locator, entry_with, entry_of_line}
-use Rattle.keep_event.specs.declared.lists.Entry.{Entry}
 use Rattle.keep_lists.specs.Answers.{both}
 
 abbrev pub number_at : List ℕ → Option ℕ

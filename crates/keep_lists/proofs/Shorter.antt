@@ -1,5 +1,5 @@
 -- A text that is cut anywhere before its end is no index.
-use Rattle.std.proofs.Common.{◌≡◌, ◌≢◌, ◌<◌, ◌≤◌, ◌+◌, ◌-◌, ℕ, zero, suc, List, [], ◌∷◌, ◌++◌, length, take, drop, get_or, Bool, true, false, Option, None, Some, Result, Ok, Err, refl, sym, ◌∙◌, ap, subst, arith, inl, inr}
+use Rattle.std.proofs.Common.{◌≡◌, ◌<◌, ◌≤◌, ◌+◌, ◌-◌, ℕ, zero, suc, List, [], ◌∷◌, ◌++◌, length, take, drop, get_or, Bool, true, false, Option, None, Some, Result, Ok, Err, refl, sym, ◌∙◌, ap, arith, inl, inr}
 use Rattle.std.specs.Prelude.{◌==◌, ◌⊎◌}
 use Rattle.std.specs.List.{position}
 use Rattle.std.proofs.lemmas.Bool.{cases_lt, eq-eqb, ne_eqb}
@@ -8,7 +8,7 @@ use Rattle.std.proofs.Math.Seq.{take-add}
 use Rattle.keep_spec.specs.Lines.{cut, text_of}
 use Rattle.keep_spec.specs.Results.{◌>>=◌}
 use Rattle.keep_base.specs.Ends.{IsPlain}
-use Rattle.keep_event.specs.Index.{is_whole, is_empty_line, is_above, entry_of_line, Fault, bad, cut_off, index_of}
+use Rattle.keep_event.specs.Index.{is_empty_line, is_above, entry_of_line, Fault, cut_off, index_of}
 use Rattle.keep_event.specs.declared.lists.Entry.{Entry}
 use Rattle.keep_lists.proofs.Bad.{result_from, FirstLine, first-line, no-line, plain-cut, goes-on, bad-line, not-above, ends, nothing-left}
 

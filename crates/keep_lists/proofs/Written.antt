@@ -1,7 +1,7 @@
 -- What is written is read again: numbers, locators without hints, and the lines of an index.
-use Rattle.std.proofs.Common.{◌≡◌, ◌<◌, ◌≤◌, ◌+◌, ◌^◌, ℕ, zero, suc, List, [], ◌∷◌, ◌++◌, length, take, drop, Bool, true, false, not, ◌&&◌, Option, None, Some, Result, Ok, Err, refl, sym, ◌∙◌, ap, subst, arith, if◌then◌else◌, eqb, leb, append_assoc, slice_index, rules}
+use Rattle.std.proofs.Common.{◌≡◌, ◌<◌, ◌≤◌, ◌+◌, ◌^◌, ℕ, List, [], ◌∷◌, ◌++◌, length, take, drop, Bool, true, false, not, ◌&&◌, Option, None, Some, Ok, refl, sym, ◌∙◌, ap, arith, if◌then◌else◌, eqb, leb, append_assoc, slice_index, rules}
 use Rattle.std.specs.Prelude.{◌==◌, ◌||◌, decimal, flat_map, option_and_then}
-use Rattle.std.specs.List.{list_all, list_any, position_or_len, before_first, after_first, AllByRecursion, onto_first}
+use Rattle.std.specs.List.{list_all, position_or_len, before_first, after_first, AllByRecursion}
 use Rattle.std.specs.Char.{is_ascii_digit}
 use Rattle.std.specs.Str.Parse.{digits_value}
 use Rattle.std.proofs.lemmas.Bool.{and_parts, and_from, eq-eqb, ne_eqb, not-true, le-leb}
@@ -17,9 +17,9 @@ use Rattle.keep_spec.specs.Lines.{cut, text_of}
 use Rattle.keep_spec.specs.Locator.{is_number, number}
 use Rattle.keep_spec.specs.Results.{◌>>=◌}
 use Rattle.keep_spec.proofs.DigestText.{lower-encode, bytes_of_digits-encode}
-use Rattle.keep_event.specs.Index.{locator_text, bare_locator, index_line, index_text, entry_with, entry_of_line, is_whole, is_empty_line, is_above, index_of, IsWritable, Ascend}
+use Rattle.keep_event.specs.Index.{locator_text, bare_locator, index_line, index_text, entry_with, entry_of_line, is_whole, is_empty_line, index_of, IsWritable, Ascend}
 use Rattle.keep_event.specs.declared.lists.Entry.{Entry}
-use Rattle.keep_lists.proofs.Bad.{result_from, goes-on, ends}
+use Rattle.keep_lists.proofs.Bad.{result_from, goes-on}
 
 -- ---- numbers
 are_digits : IsNumeralModel (λ ds. list_all is_ascii_digit ds ≡ true) (digits_value 10)

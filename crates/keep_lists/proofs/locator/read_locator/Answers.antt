@@ -1,4 +1,4 @@
-use Rattle.std.proofs.Common.{◌≡◌, ◌+◌, ℕ, List, take, drop, sym, ◌∙◌, ap, slice_index, get_or, arith}
+use Rattle.std.proofs.Common.{◌≡◌, ℕ, List, take, drop, sym, ◌∙◌, ap, slice_index, get_or, arith}
 use Rattle.std.proofs.lemmas.List.{drop-drop, get_or-drop}
 use Rattle.keep_spec.specs.Digest.{digest_of}
 use Rattle.keep_lists.specs.Answers.{both}

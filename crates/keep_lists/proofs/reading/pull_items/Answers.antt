@@ -1,4 +1,4 @@
-use Rattle.std.proofs.Common.{◌≡◌, ◌+◌, ◌++◌, ◌∷◌, [], ℕ, drop, sym, ◌∙◌, ap, arith, true, not, if◌then◌else◌}
+use Rattle.std.proofs.Common.{◌≡◌, ◌+◌, ◌++◌, ◌∷◌, [], drop, sym, ◌∙◌, ap, arith, true, not, if◌then◌else◌}
 use Rattle.std.specs.Result.{is_ok}
 use Rattle.serde_json.specs.View.{view, items_view}
 use Rattle.keep_event.specs.Lists.{pull_item_of, each_from}

@@ -1,4 +1,4 @@
-use Rattle.std.proofs.Common.{◌≡◌, subst, sym, ◌∙◌, List, ℕ}
+use Rattle.std.proofs.Common.{subst, sym, ◌∙◌, List, ℕ}
 use Rattle.std.specs.Str.{IsUtf8}
 use Rattle.keep_lists.proofs.Uuids.{uuid-text, ok-where}
 use Rattle.keep_lists.proofs.writing.uuid_text.Goals as goal

@@ -1,7 +1,7 @@
-use Rattle.std.proofs.Common.{◌≡◌, ◌∙◌, ap, ℕ, Bool, false, Vec, Global, string_bytes}
+use Rattle.std.proofs.Common.{◌≡◌, ◌∙◌, ap, ℕ, false, Vec, Global, string_bytes}
 use Rattle.serde_json.specs.View.{view}
 use Rattle.serde_json.specs.Written.{has_float, compact_text}
-use Rattle.keep_event.specs.Lists.{lists_data, lists_text}
+use Rattle.keep_event.specs.Lists.{lists_text}
 use Rattle.keep_lists.proofs.Floats.{no-floats}
 use Rattle.keep_lists.proofs.writing.write_lists.Goals as goal
 
