@@ -86,7 +86,8 @@ fn device(alloc: Global) -> Option<Volume<MemoryStore>> {
     let rules = DeviceRules {
         capacity: u64::MAX,
         read_only: false,
-        grace: 0,
+        ttl: 0,
+        skew: 0,
         trash_life: 0,
     };
     Volume::open(alloc, MemoryStore::new(alloc, Vec::new(alloc)), rules).ok()

@@ -1,7 +1,7 @@
 // Devices: each line of the input is a reading and a query, `compare`, `write`, `fetch`, `touch` or `untrash` and a block, `clear ROUND`,
 // `accept ROUND` and then any number of `trash BLOCK SIZE MTIME` and `pull BLOCK SIZE SOURCES`, `page ROUND PREFIX`, `trash`, `pull`, `empty` or `restart`; or
 // `reopen` alone. A block is its bytes as text, or `x:` and hexadecimal digits; where a digest is asked for, it is the block's. Settings: `capacity`, `read_only`,
-// `grace`, `trash_life`, `store_fails`, and `held ..`. The answer is the printed line of each event, with what that line doesn't say, and at the end what the
+// `ttl`, `skew`, `trash_life` (seconds), `store_fails`, and `held ..`. The answer is the printed line of each event, with what that line doesn't say, and at the end what the
 // store holds.
 ghost use Rattle.std.specs.Prelude.{◌≤◌};
 
@@ -21,16 +21,18 @@ use std::str::from_utf8;
 
 const READING_MAX: u64 = 3_999_999_999_999_999_999;
 
-const LIFE_MAX: u64 = 100_000_000_000_000_000;
+// A span of the case, in seconds.
+fn span(case: &Case, key: &str, other: u64) -> u32 {
+    u32::try_from(case.number(key, other)).unwrap_or(u32::MAX)
+}
 
-fn rules_of(case: &Case) -> DeviceRules
-    ensures { result.trash_life ≤ 100000000000000000 }
-{
+fn rules_of(case: &Case) -> DeviceRules {
     DeviceRules {
         capacity: case.number("capacity", 1000),
         read_only: case.value("read_only").is_some(),
-        grace: case.number("grace", 102_000_000_000),
-        trash_life: case.number("trash_life", 50_000_000_000).min(LIFE_MAX),
+        ttl: span(case, "ttl", 100),
+        skew: span(case, "skew", 1),
+        trash_life: span(case, "trash_life", 50),
     }
 }
 

@@ -5,6 +5,7 @@ use Rattle.std.specs.Str.{bytes_eq}
 use Rattle.std.specs.List.{find, last_or}
 use Rattle.hex.specs.Hex.{encode_lower}
 use Rattle.md5.specs.Md5.{md5}
+use Rattle.keep_spec.specs.Times.{grace, nanos}
 use Rattle.keep_event.specs.Store as store
 use Rattle.keep_event.specs.declared.names.Name.{Name}
 use Rattle.keep_event.specs.declared.names.Stored.{Stored}
@@ -148,10 +149,10 @@ trashed rules item reading s None = stays (Gone item.digest) s
 trashed rules item reading s (Some r) =
     if r.mtime == item.mtime
     then
-    if nat_lt (r.mtime + rules.grace) reading
+    if nat_lt (r.mtime + grace rules.ttl rules.skew) reading
     then record {
-      answer = Trashed item.digest (reading + rules.trash_life) s.round;
-      state = with_held (store.rename (replica item.digest) (copy item.digest (reading + rules.trash_life)) r.mtime s.held (replica_of item.digest s)) s;
+      answer = Trashed item.digest (reading + nanos rules.trash_life) s.round;
+      state = with_held (store.rename (replica item.digest) (copy item.digest (reading + nanos rules.trash_life)) r.mtime s.held (replica_of item.digest s)) s;
     }
     else stays (Young item.digest r.mtime) s
     else stays (Skipped item.digest r.mtime) s

@@ -9,10 +9,12 @@ pub struct DeviceRules {
     pub capacity: u64,
     /// A device that is read-only answers ReadOnly to every query that would change a replica or a trashed copy.
     pub read_only: bool,
-    /// The age that a replica must have passed before it is trashed, in nanoseconds: the lifetime of signatures and twice the skew of clocks.
-    pub grace: u64,
-    /// How long a trashed copy is kept, in nanoseconds.
-    pub trash_life: u64,
+    /// The lifetime of signatures, in seconds. With the guard it makes the grace, the age that a replica must have passed before it is trashed.
+    pub ttl: u32,
+    /// By how much two clocks may differ, in seconds. The guard is twice that.
+    pub skew: u32,
+    /// How long a trashed copy is kept, in seconds.
+    pub trash_life: u32,
 }
 
 /// A query to a device. A `token` is that of the client for whom an answer Touched or Written issues a signature; without one, none is issued.

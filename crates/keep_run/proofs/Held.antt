@@ -7,6 +7,7 @@ use Rattle.std.specs.Ordering.{match_ordering}
 use Rattle.std.specs.declared.cmp.Ordering.{Ordering}
 use Rattle.std.specs.declared.cmp.Ordering.TheVariants.{Less, Equal, Greater}
 use Rattle.md5.specs.Md5.{md5}
+use Rattle.keep_spec.specs.Times.{grace, nanos}
 use Rattle.keep_event.specs.Store as store
 use Rattle.keep_event.specs.Device as machine
 use Rattle.keep_event.specs.Device.{State, Reply}
@@ -104,18 +105,18 @@ module _ (P : List ℕ → Type 0) where
     -- what a trashed replica leaves
     abbrev trashed_reply : TrashItem → Stored → Reply
     trashed_reply item r = record {
-      answer = A.Trashed item.digest (reading + rules.trash_life) s.round;
-      state = machine.with_held (store.rename (machine.replica item.digest) (machine.copy item.digest (reading + rules.trash_life)) r.mtime s.held (machine.replica_of item.digest s)) s;
+      answer = A.Trashed item.digest (reading + nanos rules.trash_life) s.round;
+      state = machine.with_held (store.rename (machine.replica item.digest) (machine.copy item.digest (reading + nanos rules.trash_life)) r.mtime s.held (machine.replica_of item.digest s)) s;
     }
 
     trashed-all : (item : TrashItem) (o : Option Stored) → LeavesAll (machine.trashed rules item reading s o)
     trashed-all item None = held
     trashed-all item (Some r) =
         leaves-if (r.mtime == item.mtime)
-        (if nat_lt (r.mtime + rules.grace) reading then trashed_reply item r else machine.stays (A.Young item.digest r.mtime) s)
+        (if nat_lt (r.mtime + grace rules.ttl rules.skew) reading then trashed_reply item r else machine.stays (A.Young item.digest r.mtime) s)
         (machine.stays (A.Skipped item.digest r.mtime) s)
-        (leaves-if (nat_lt (r.mtime + rules.grace) reading) (trashed_reply item r) (machine.stays (A.Young item.digest r.mtime) s)
-        (all-moved (machine.replica item.digest) (machine.copy item.digest (reading + rules.trash_life)) r.mtime s.held (machine.replica_of item.digest s) (all-found (machine.replica item.digest) s.held held) held)
+        (leaves-if (nat_lt (r.mtime + grace rules.ttl rules.skew) reading) (trashed_reply item r) (machine.stays (A.Young item.digest r.mtime) s)
+        (all-moved (machine.replica item.digest) (machine.copy item.digest (reading + nanos rules.trash_life)) r.mtime s.held (machine.replica_of item.digest s) (all-found (machine.replica item.digest) s.held held) held)
         held)
         held
 

@@ -36,16 +36,15 @@ fn is_run(words: &[String]) -> bool
 // The rules of the configuration's one device.
 fn rules_of(config: &Config) -> DeviceRules
     requires one { length config.now.devices ≡ 1 }
-    requires life { config.now.trash_life ≤ 100000000 }
     ensures rules { result ≡ rules_of config.now }
-    ensures life { result.trash_life ≤ 100000000000000000 }
 {
     let device = config.device(0);
     DeviceRules {
         capacity: device.capacity,
         read_only: device.read_only,
-        grace: config.grace_nanos(),
-        trash_life: config.trash_life_nanos(),
+        ttl: config.ttl,
+        skew: config.skew,
+        trash_life: config.trash_life,
     }
 }
 
@@ -60,7 +59,6 @@ fn run_store<R: Source, W: Sink, S: Store>(
     requires fine { lines_failed lines.old ≡ None }
     requires first { lines_number lines.old ≡ 1 }
     requires one { length config.now.devices ≡ 1 }
-    requires life { config.now.trash_life ≤ 100000000 }
     ensures told { AllTold (lines_left lines.old) (told_state (S.held store) (S.noted store)) (W.taken sink.old) (λ bytes start t.
         StoreRan config.now (beginning (lines_taken lines.old) 1 bytes start t) result.1 (S.held result.0) (S.noted result.0) (S.faults store) (S.faults result.0) (W.taken sink.new)) }
     ensures same_reference { lines_name lines.new ≡ lines_name lines.old }
@@ -105,7 +103,6 @@ fn run_stores<R: Source, W: Sink, S: Store>(
     requires fine { lines_failed lines.old ≡ None }
     requires first { lines_number lines.old ≡ 1 }
     requires one { length config.now.devices ≡ 1 }
-    requires life { config.now.trash_life ≤ 100000000 }
     requires some { 0 < vec_len stores.old }
     ensures told { AllTold (lines_left lines.old) (first_state S.held S.noted stores.old.items) (W.taken sink.old) (λ bytes start t.
         FirstRan S.held S.noted S.faults config.now (beginning (lines_taken lines.old) 1 bytes start t) stores.old.items stores.new.items result (W.taken sink.new)) }
@@ -149,7 +146,6 @@ fn read_config(alloc: Global, text: &[u8], stores: usize) -> Result<Config, Stat
     ensures ok { IfOk result (λ c. config_for stores text.now ≡ Ok c) }
     ensures one { IfOk result (λ c. length c.devices ≡ 1) }
     ensures some { IfOk result (λ c. 0 < stores) }
-    ensures life { IfOk result (λ c. c.trash_life ≤ 100000000) }
     ensures err { IfErr result (λ status. IsConfigRefusal status (config_for stores text.now)) }
 {
     let config = match Config::read(alloc, text) {

@@ -3,6 +3,7 @@ use Rattle.std.proofs.Common.{arith}
 use Rattle.std.proofs.Common.{◌≡◌, ℕ, List, Bool, true, false, Option, None, Some, option_map, refl, sym, ◌∙◌, ap, max, unwrap_or, if◌then◌else◌}
 use Rattle.std.specs.Str.{bytes_eq}
 use Rattle.md5.specs.Md5.{md5}
+use Rattle.keep_spec.specs.Times.{grace, nanos}
 use Rattle.keep_event.specs.Device as machine
 use Rattle.keep_event.specs.Device.{State, Reply, stays, replica, replica_of, renewed, with_held, other_answer}
 use Rattle.keep_event.specs.Store as store
@@ -126,10 +127,10 @@ module _ (rules : DeviceRules) (item : TrashItem) (reading : ℕ) (s : State) wh
     pub item-skipped : (known.mtime == item.mtime) ≡ false → machine.trash_item rules item reading s ≡ stays (Skipped item.digest known.mtime) s
     item-skipped h = to-there ∙ rw (same-time, h) refl
 
-    pub item-young : (known.mtime == item.mtime) ≡ true → nat_lt (known.mtime + rules.grace) reading ≡ false → machine.trash_item rules item reading s ≡ stays (Young item.digest known.mtime) s
+    pub item-young : (known.mtime == item.mtime) ≡ true → nat_lt (known.mtime + grace rules.ttl rules.skew) reading ≡ false → machine.trash_item rules item reading s ≡ stays (Young item.digest known.mtime) s
     item-young h k = to-there ∙ rw (same-time, h, k) refl
 
-    pub item-trashed : (known.mtime == item.mtime) ≡ true → nat_lt (known.mtime + rules.grace) reading ≡ true → (deadline round : ℕ) → deadline ≡ reading + rules.trash_life → round ≡ s.round
+    pub item-trashed : (known.mtime == item.mtime) ≡ true → nat_lt (known.mtime + grace rules.ttl rules.skew) reading ≡ true → (deadline round : ℕ) → deadline ≡ reading + nanos rules.trash_life → round ≡ s.round
         → machine.trash_item rules item reading s ≡ record { answer = Trashed item.digest deadline round; state = with_held (store.rename n (machine.copy item.digest deadline) known.mtime s.held (find n s.held)) s }
     item-trashed h k deadline round ed er = to-there ∙ rw (same-time, h, k) (rw (ed, er, en) refl)
 

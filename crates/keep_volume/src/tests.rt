@@ -14,8 +14,9 @@ use std::test::Fail;
 static RULES: DeviceRules = DeviceRules {
     capacity: 1000,
     read_only: false,
-    grace: 102_000_000_000,
-    trash_life: 50_000_000_000,
+    ttl: 100,
+    skew: 1,
+    trash_life: 50,
 };
 
 // 1000, 1102 and 1152 seconds: the time of a block, the last reading at which it is young, and the deadline beside it.

@@ -1,7 +1,7 @@
 // A device over a store.
-ghost use Rattle.std.specs.Prelude.{◌≡◌, ◌↔◌, ◌≤◌, IsTrue, option_copied, [], true, false, IfOk, IsOk, IfSome, Some, None, option_map, max, map, sum_by, IfErr, ◌+◌, ◌<◌, ◌^◌, slice_get};
+ghost use Rattle.std.specs.Prelude.{◌≡◌, ◌↔◌, ◌≤◌, IsTrue, option_copied, [], true, false, IfOk, IsOk, IfSome, Some, None, option_map, max, map, sum_by, IfErr, ◌+◌, ◌-◌, ◌*◌, ◌^◌, slice_get};
 ghost use Rattle.md5.specs.Md5.{md5};
-ghost use Rattle.keep_spec.specs.Times.{IsReading};
+ghost use Rattle.keep_spec.specs.Times.{IsReading, nanos};
 ghost use Rattle.keep_event.specs.Device as machine;
 ghost use Rattle.keep_event.specs.Store as store;
 ghost use Rattle.keep_event.specs.Store.{find, size_of, sized};
@@ -15,7 +15,7 @@ use keep_event::{
     Block, DeviceAnswer, DeviceQuery, DeviceRules, Lists, Metadata, Name, PullItem, Stored,
     TrashItem,
 };
-use keep_spec::{Digest, Items, NoMemory, TokenId};
+use keep_spec::{Digest, Items, NANOS_PER_SECOND, NoMemory, TokenId, grace_nanos};
 use keep_store::{Failed, Store, StoreError};
 use md5::Md5;
 use std::alloc::Global;
@@ -54,7 +54,7 @@ impl<S: Store> Model for Volume<S> {
 
     ghost view = { λ v. record { held = S.held v.store; round = v.round; trash = drop v.trash_done v.trash.items; pull = v.pull.items; rules = v.rules; faults = S.faults v.store } };
 
-    ghost invariant = { λ v. record { remembers : Remembers (S.held v.store) v.index.entries; done : v.trash_done ≤ length v.trash.items; noted : IfSome (S.noted v.store) (λ n. n ≡ v.round); life : v.rules.trash_life ≤ 100000000000000000 } };
+    ghost invariant = { λ v. record { remembers : Remembers (S.held v.store) v.index.entries; done : v.trash_done ≤ length v.trash.items; noted : IfSome (S.noted v.store) (λ n. n ≡ v.round) } };
 }
 
 // The name of a digest's replica.
@@ -67,11 +67,17 @@ fn replica(digest: Digest) -> Name
     }
 }
 
+// Seconds in nanoseconds.
+fn nanos_of(seconds: u32) -> u64
+    ensures nanos { result ≡ nanos seconds }
+    ensures bound { result ≤ (2 ^ 32 - 1) * 10 ^ 9 }
+{
+    u64::from(seconds) * NANOS_PER_SECOND
+}
+
 impl<S: Store> Volume<S> {
     /// Opens a device over its store: both lists are empty, and the round is the store's note. It makes two calls of the store, `note` and then `names_from`. On error the store comes back as it was.
-    /// Condition: trashed copies are kept for at most 10^17 nanoseconds.
     pub fn open(alloc: Global, store: S, rules: DeviceRules) -> Result<Volume<S>, OpenError<S>>
-        requires { rules.trash_life ≤ 100000000000000000 }
         ensures opened { IfOk result (λ v. IsOpened (S.held store) (S.noted store) rules v) }
         ensures later { IfOk result (λ v. S.faults store ≤ v.faults) }
         ensures given_back { IfErr result (IsGivenBack (S.held store) (S.noted store) (S.faults store) S.held S.noted S.faults) }
@@ -547,10 +553,10 @@ impl<S: Store> Volume<S> {
         if mtime != item.mtime {
             return Ok(DeviceAnswer::Skipped { digest, mtime });
         }
-        if reading as u128 <= mtime as u128 + self.rules.grace as u128 {
+        if reading as u128 <= mtime as u128 + grace_nanos(self.rules.ttl, self.rules.skew) as u128 {
             return Ok(DeviceAnswer::Young { digest, mtime });
         }
-        let deadline = reading + self.rules.trash_life;
+        let deadline = reading + nanos_of(self.rules.trash_life);
         let round = self.round;
         let to = Name {
             digest,

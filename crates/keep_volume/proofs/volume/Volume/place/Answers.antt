@@ -19,7 +19,6 @@ invariant_of-self-2 g c =
       remembers = both-change (g.S.Store.held c.self.inside.store) _ c.self.inside.index.entries _ (put c.replica-name.result x) (put c.replica-name.result (size_of x)) c.self.invariant.remembers (search rules) (search rules) (put-sizes c.replica-name.result x);
       done = c.self.invariant.done;
       noted = search rules;
-      life = c.self.invariant.life;
     }
 
 pub returns-clause-line : goal.returns-clause-line

@@ -1,4 +1,4 @@
-use Rattle.std.proofs.Common.{rules, sym, ◌∙◌, refl, arith}
+use Rattle.std.proofs.Common.{rules, sym, ◌∙◌, refl, ap, arith}
 use Rattle.std.specs.Prelude.{◌+◌}
 use Rattle.std.proofs.lemmas.Bool.Decides.{nat_tests}
 use Rattle.keep_event.specs.Device.{copy}
@@ -35,6 +35,6 @@ returns-clause-item g c =
     let d = c.args.self.now in
     let m = c.in-Some.sized.mtime in
     let n = c.replica-name.result in
-    let deadline = c.args.reading + c.self.inside.rules.trash_life in
+    let deadline = c.args.reading + c.nanos_of.result in
     item-over _ d c.rename.new.self (λ es. store.rename n (copy c.args.item.digest deadline) m es (find n es)) c.in_ok-rename.ensures.0 c.in_ok-rename.ensures.1 (Trashed c.args.item.digest deadline c.self.inside.round)
-    (told-map d.held (λ es k. item-trashed d.rules c.args.item c.args.reading (state_with d es) c.in-Some.sized n (search rules) c.replica-name.ensures (sym c.in-Some.is ∙ k) (search rules) (rw (← c.self.view_is) (grind (arith, nat_tests))) deadline c.self.inside.round (rw (← c.self.view_is) refl) (rw (← c.self.view_is) refl)) c.known.ensures) (λ e. cc e)
+    (told-map d.held (λ es k. item-trashed d.rules c.args.item c.args.reading (state_with d es) c.in-Some.sized n (search rules) c.replica-name.ensures (sym c.in-Some.is ∙ k) (search rules) (rw (← c.self.view_is) (grind (arith, nat_tests))) deadline c.self.inside.round (rw (← c.self.view_is) (ap (λ x. c.args.reading + x) c.nanos_of.ensures.nanos)) (rw (← c.self.view_is) refl)) c.known.ensures) (λ e. cc e)
