@@ -1,9 +1,10 @@
-use Rattle.std.proofs.Common.{refl, sym, ◌∙◌, ap, arith, ◌++◌}
+use Rattle.std.proofs.Common.{refl, sym, subst, ◌∙◌, ap, arith, ◌++◌, ◌+◌}
 use Rattle.keep_history.specs.declared.task.TaskState.TheVariants as S
 use Rattle.keep_history.specs.Effects.{state_after}
 use Rattle.keep_history.specs.Names.{state_of_name, with_name}
 use Rattle.keep_history.specs.Printed.{end_line}
 use Rattle.keep_history.specs.declared.task.Command.TheVariants as C
+use Rattle.keep_run.specs.Asked.{IsTaskDone, IsTaskStopped, turn}
 use Rattle.keep_run.specs.Commands.{StopsCommand, open_task_of}
 use Rattle.keep_run.specs.Scenes.{cluster}
 use Rattle.keep_run.proofs.Counters.{same-few}
@@ -41,7 +42,7 @@ returns-in_err-outcome-clause-stopped g c =
     let config = c.args.config.now in
     let found = ap (λ w. open_task_of (state_of_name w es)) (sym c.in_ok-duplicate.ensures) ∙ ap open_task_of (sym c.in_ok-state.ensures.previous) ∙ sym c.open_task_of.ensures in
     let there = found ∙ c.in-Some.is in
-    let stopped = rw c.as_slice.ensures at c.in_err-outcome.ensures.stopped in
+    let stopped = subst (λ w. IsTaskStopped (turn config c.args.reading w c.in-Some.task) old.volume c.ask_task.new.volume) c.as_slice.ensures c.in_err-outcome.ensures.stopped in
     on_err {P = StopsCommand config (C.Finish name c.args.reading) old c.ask_task.new.volume} _ (stops-task config old name c.args.reading c.ask_task.new.volume c.in-Some.task there stopped)
 
 pub returns-in_err-push_end_line-clause-stopped : goal.returns-in_err-push_end_line-clause-stopped
@@ -53,7 +54,8 @@ returns-in_err-push_end_line-clause-stopped g c =
     let found = ap (λ w. open_task_of (state_of_name w es)) (sym c.in_ok-duplicate.ensures) ∙ ap open_task_of (sym c.in_ok-state.ensures.previous) ∙ sym c.open_task_of.ensures in
     let there = found ∙ c.in-Some.is in
     let after = cluster c.ask_task.new.volume c.ask_task.new.table in
-    let done = rw c.as_slice.ensures at c.in_ok-outcome.ensures.done in
+    let done = subst (λ w. IsTaskDone (turn config c.args.reading w c.in-Some.task) (cluster old.volume old.table) (cluster c.ask_task.new.volume c.ask_task.new.table)
+        c.args.out.now.items c.ask_task.new.out.items c.in_ok-outcome.field-0) c.as_slice.ensures c.in_ok-outcome.ensures.done in
     on_err {P = StopsCommand config (C.Finish name c.args.reading) old c.ask_task.new.volume} _
     (stops-task config old name c.args.reading c.ask_task.new.volume c.in-Some.task there (done-stopped config old name c.args.reading after c.in-Some.task _ _ _ done))
 
@@ -66,7 +68,8 @@ returns-in_err-set_name-clause-stopped g c =
     let found = ap (λ w. open_task_of (state_of_name w es)) (sym c.in_ok-duplicate.ensures) ∙ ap open_task_of (sym c.in_ok-state.ensures.previous) ∙ sym c.open_task_of.ensures in
     let there = found ∙ c.in-Some.is in
     let after = cluster c.ask_task.new.volume c.ask_task.new.table in
-    let done = rw c.as_slice.ensures at c.in_ok-outcome.ensures.done in
+    let done = subst (λ w. IsTaskDone (turn config c.args.reading w c.in-Some.task) (cluster old.volume old.table) (cluster c.ask_task.new.volume c.ask_task.new.table)
+        c.args.out.now.items c.ask_task.new.out.items c.in_ok-outcome.field-0) c.as_slice.ensures c.in_ok-outcome.ensures.done in
     on_err {P = StopsCommand config (C.Finish name c.args.reading) old c.ask_task.new.volume} _
     (stops-task config old name c.args.reading c.ask_task.new.volume c.in-Some.task there (done-stopped config old name c.args.reading after c.in-Some.task _ _ _ done))
 
@@ -78,12 +81,14 @@ returns-clause-done g c = λ _.
     let config = c.args.config.now in
     let found = ap (λ w. open_task_of (state_of_name w es)) (sym c.in_ok-duplicate.ensures) ∙ ap open_task_of (sym c.in_ok-state.ensures.previous) ∙ sym c.open_task_of.ensures in
     let there = found ∙ c.in-Some.is in
-    let done = rw c.as_slice.ensures at c.in_ok-outcome.ensures.done in
+    let done = subst (λ w. IsTaskDone (turn config c.args.reading w c.in-Some.task) (cluster old.volume old.table) (cluster c.ask_task.new.volume c.ask_task.new.table)
+        c.args.out.now.items c.ask_task.new.out.items c.in_ok-outcome.field-0) c.as_slice.ensures c.in_ok-outcome.ensures.done in
     let f = c.in_ok-outcome.field-0 in
     let first = c.in_ok-state.ensures.set ∙ ap (λ w. with_name w S.Ended es) c.in_ok-duplicate.ensures in
     let named = c.in_ok-set_name.ensures.set ∙ ap (λ w. with_name name w c.set_name.new.names.entries) c.state_after.ensures ∙ ap (with_name name (state_after f.outcome)) first ∙ with_name-twice name S.Ended (state_after f.outcome) es in
     let printed = c.in_ok-push_end_line.ensures ∙ ap (λ w. c.ask_task.new.out.items ++ end_line w f.outcome) c.as_slice-2.ensures in
-    does-task config old name c.args.reading _ c.in-Some.task f _ _ _ there refl named printed done
+    does-task config old name c.args.reading (record { volume = c.ask_task.new.volume; table = c.ask_task.new.table; names = c.set_name-2.new.names; events = old.events + f.events })
+        c.in-Some.task f _ _ _ there refl named printed done
 
 pub returns-clause-sound : goal.returns-clause-sound
 returns-clause-sound g c =
