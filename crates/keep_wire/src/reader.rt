@@ -65,7 +65,7 @@ impl<'a, R: Source> Reader<'a, R> {
         ensures same_reference { reader_name result ≡ source.entry.ghost_name }
         ensures same_source { reader_source result ≡ source.old }
         ensures left { reader_left result ≡ prepend_known [] (R.left source.old) }
-        ensures fine { reader_failed result ≡ None }
+        ensures no_error { reader_failed result ≡ None }
     {
         Reader {
             source,
@@ -88,9 +88,10 @@ impl<'a, R: Source> Reader<'a, R> {
     pub(crate) fn next<M: Message>(&mut self) -> Result<Option<M>, WireError>
         ensures same_reference { reader_name self.new ≡ reader_name self.old }
         ensures told { reader_failed self.old ≡ None → IsNext M.grammar M.make (reader_left self.old) result (reader_left self.new) }
-        ensures fine { OnOk result ((reader_failed self.old ≡ None) × (reader_failed self.new ≡ None)) }
+        ensures no_error { OnOk result ((reader_failed self.old ≡ None) × (reader_failed self.new ≡ None)) }
         ensures failed { IfErr result (λ e. reader_failed self.new ≡ Some e) }
-        ensures again { IfSome (reader_failed self.old) (λ e. result ≡ Err e) }
+        ensures same_error { IfSome (reader_failed self.old) (λ e. result ≡ Err e) }
+        ensures unread { IfSome (reader_failed self.old) (λ e. reader_source self.new ≡ reader_source self.old) }
         ensures later { R.faults (reader_source self.old) ≤ R.faults (reader_source self.new) }
         ensures cause { result ≡ Err WireError.ReadFault → reader_failed self.old ≡ None → Rose (R.faults (reader_source self.old)) (R.faults (reader_source self.new)) }
     {

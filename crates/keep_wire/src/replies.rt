@@ -22,7 +22,7 @@ impl<'a, R: Source> Replies<'a, R> {
         ensures same_reference { replies_name result ≡ source.entry.ghost_name }
         ensures same_source { replies_source result ≡ source.old }
         ensures left { replies_left result ≡ prepend_known [] (R.left source.old) }
-        ensures fine { replies_failed result ≡ None }
+        ensures no_error { replies_failed result ≡ None }
     {
         Replies {
             reader: Reader::new(alloc, source),
@@ -41,9 +41,10 @@ impl<'a, R: Source> Replies<'a, R> {
     pub fn next(&mut self) -> Result<Option<Response>, WireError>
         ensures same_reference { replies_name self.new ≡ replies_name self.old }
         ensures told { replies_failed self.old ≡ None → IsNext (replies_left self.old) result (replies_left self.new) }
-        ensures fine { OnOk result ((replies_failed self.old ≡ None) × (replies_failed self.new ≡ None)) }
+        ensures no_error { OnOk result ((replies_failed self.old ≡ None) × (replies_failed self.new ≡ None)) }
         ensures failed { IfErr result (λ e. replies_failed self.new ≡ Some e) }
-        ensures again { IfSome (replies_failed self.old) (λ e. result ≡ Err e) }
+        ensures same_error { IfSome (replies_failed self.old) (λ e. result ≡ Err e) }
+        ensures unread { IfSome (replies_failed self.old) (λ e. replies_source self.new ≡ replies_source self.old) }
         ensures later { R.faults (replies_source self.old) ≤ R.faults (replies_source self.new) }
         ensures cause { result ≡ Err WireError.ReadFault → replies_failed self.old ≡ None → Rose (R.faults (replies_source self.old)) (R.faults (replies_source self.new)) }
     {

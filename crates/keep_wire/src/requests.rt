@@ -22,7 +22,7 @@ impl<'a, R: Source> Requests<'a, R> {
         ensures same_reference { requests_name result ≡ source.entry.ghost_name }
         ensures same_source { requests_source result ≡ source.old }
         ensures left { requests_left result ≡ prepend_known [] (R.left source.old) }
-        ensures fine { requests_failed result ≡ None }
+        ensures no_error { requests_failed result ≡ None }
     {
         Requests {
             reader: Reader::new(alloc, source),
@@ -41,9 +41,10 @@ impl<'a, R: Source> Requests<'a, R> {
     pub fn next(&mut self) -> Result<Option<Request>, WireError>
         ensures same_reference { requests_name self.new ≡ requests_name self.old }
         ensures told { requests_failed self.old ≡ None → IsNext (requests_left self.old) result (requests_left self.new) }
-        ensures fine { OnOk result ((requests_failed self.old ≡ None) × (requests_failed self.new ≡ None)) }
+        ensures no_error { OnOk result ((requests_failed self.old ≡ None) × (requests_failed self.new ≡ None)) }
         ensures failed { IfErr result (λ e. requests_failed self.new ≡ Some e) }
-        ensures again { IfSome (requests_failed self.old) (λ e. result ≡ Err e) }
+        ensures same_error { IfSome (requests_failed self.old) (λ e. result ≡ Err e) }
+        ensures unread { IfSome (requests_failed self.old) (λ e. requests_source self.new ≡ requests_source self.old) }
         ensures later { R.faults (requests_source self.old) ≤ R.faults (requests_source self.new) }
         ensures cause { result ≡ Err WireError.ReadFault → requests_failed self.old ≡ None → Rose (R.faults (requests_source self.old)) (R.faults (requests_source self.new)) }
     {
