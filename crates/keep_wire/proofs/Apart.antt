@@ -88,7 +88,7 @@ bad_not_cut g bytes bad cut =
 
 -- ---- no bytes
 
-nothing_read : {H : Type 0} (g : Grammar H) (l : Lined g) (h : H) (rest : List ℕ) → Reads g [] h rest → ⊥
+pub nothing_read : {H : Type 0} (g : Grammar H) (l : Lined g) (h : H) (rest : List ℕ) → Reads g [] h rest → ⊥
 nothing_read g l h rest reads =
     let count : lines_in [] ≡ 2 + length (g.fields h) + newlines rest = ap lines_in reads.1 ∙ lines-head g l h rest reads.0 in
     omega (arith, count)

@@ -14,4 +14,5 @@ pub mod Place
 pub mod RequestLines
 pub mod ResponseLines
 pub mod Sent
+pub mod There
 pub mod Whole

@@ -59,7 +59,7 @@ first_fields (suc n) (f ∷ fs) last b more all e le =
       | inr t ↦ absurd (omega (arith, field_open f b t.1 t.0 ok t.2))
     ]
 
-many_here : {H : Type 0} (g : Grammar H) (l : Lined g) (bytes e rest : List ℕ) (h : H) → g.valid h → bytes ≡ l.start h ++ e → 65 ≤ length (g.fields h) → e ≡ flat_map print_field (take 65 (g.fields h)) ++ rest → HasManyFields g bytes
+pub many_here : {H : Type 0} (g : Grammar H) (l : Lined g) (bytes e rest : List ℕ) (h : H) → g.valid h → bytes ≡ l.start h ++ e → 65 ≤ length (g.fields h) → e ≡ flat_map print_field (take 65 (g.fields h)) ++ rest → HasManyFields g bytes
 many_here g l bytes e rest h ok whole le fields =
     let fm = flat_map print_field (take 65 (g.fields h)) in
     let full : length (g.fields (l.first h)) ≡ 65 = ap length (l.first_fields h) ∙ length-take-le 65 (g.fields h) le in (

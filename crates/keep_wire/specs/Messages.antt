@@ -139,3 +139,8 @@ abbrev pub AreDetermined : {H M : Type 0} → Grammar H → (H → List ℕ → 
 AreDetermined {H} {M} g make =
     (bytes : List ℕ) (r s : Result (Option M) WireError) (a b : Option (List ℕ)) → IsDecided r → IsDecided s
     → IsNext g make (Some bytes) r a → IsNext g make (Some bytes) s b → (r ≡ s) × IfOk r (λ o. IfSome o (λ _. a ≡ b))
+
+-- known bytes have such an answer: that they have none can't be
+abbrev pub IsSomethingNext : {H M : Type 0} → Grammar H → (H → List ℕ → M) → Type 0
+IsSomethingNext {H} {M} g make =
+    (bytes : List ℕ) → ¬ ((r : Result (Option M) WireError) (left : Option (List ℕ)) → IsDecided r → ¬ (IsNext g make (Some bytes) r left))

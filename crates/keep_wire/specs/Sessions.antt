@@ -22,3 +22,7 @@ AreRequests bytes (q ∷ qs) end =
 -- known bytes have at most one list of requests, and one end
 abbrev pub AreRequestsDetermined : Type 0
 AreRequestsDetermined = (bytes : List ℕ) (qs rs : List Request) (e f : Ending) → AreRequests bytes qs e → AreRequests bytes rs f → (qs ≡ rs) × (e ≡ f)
+
+-- known bytes have a list of requests, and an end: that they have none can't be
+abbrev pub AreRequestsThere : Type 0
+AreRequestsThere = (bytes : List ℕ) → ¬ ((qs : List Request) (e : Ending) → ¬ (AreRequests bytes qs e))
