@@ -1,6 +1,8 @@
+pub mod Again
 pub mod Bad
 pub mod Floats
 pub mod Locators
+pub mod Mounts
 pub mod Shorter
 pub mod Steps
 pub mod Uuids

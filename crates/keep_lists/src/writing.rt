@@ -1,9 +1,10 @@
 // The lists of a device, written.
-ghost use Rattle.std.specs.Prelude.{◌≡◌, ◌==◌, [], IfOk, map, find, option_map, string_bytes};
+ghost use Rattle.std.specs.Prelude.{◌≡◌, ◌==◌, [], Ok, IfOk, map, find, option_map, string_bytes};
 ghost use Rattle.std.specs.Option.{option_map_or};
 ghost use Rattle.serde_json.specs.View.{view};
 ghost use Rattle.keep_event.specs.Index.{locator_text};
-ghost use Rattle.keep_event.specs.Lists.{first_mount, source_data, trash_item_data, pull_item_data, lists_data, lists_text};
+ghost use Rattle.keep_event.specs.Lists.{first_mount, source_data, trash_item_data, pull_item_data, lists_data, lists_text, lists_of};
+ghost use Rattle.keep_lists.specs.Writable.{AreWritable};
 
 use hex::encode;
 use itoa::Buffer;
@@ -160,7 +161,8 @@ fn lists_value(
 }
 
 /// Writes the lists of a device as one JSON object without spaces, its names in ascending order. The device and each source
-/// are named by their first mounts; one that isn't configured gets the empty text for a name.
+/// are named by their first mounts; one that isn't configured gets the empty text for a name. `read_lists` reads the lists again
+/// where the device and all sources are configured and sizes are below 10^19.
 #[tactic(auto, unfolding(keep_event::specs::Lists::lists_text))]
 pub fn write_lists(
     alloc: Global,
@@ -169,6 +171,7 @@ pub fn write_lists(
     device: u32,
 ) -> Result<Bytes, NoMemory>
     ensures text { IfOk result (λ b. b ≡ lists_text config.now device lists.now) }
+    ensures read_again { IfOk result (λ b. AreWritable config.now device lists.now → lists_of config.now device b ≡ Ok lists.now) }
 {
     let value = lists_value(alloc, lists, config, device)?;
     let text = value.to_string(alloc)?;
