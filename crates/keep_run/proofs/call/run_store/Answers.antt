@@ -1,5 +1,6 @@
-use Rattle.std.proofs.Common.{◌≡◌, sym, ◌∙◌, true, false, IsTrue, ◌↔◌}
+use Rattle.std.proofs.Common.{◌≡◌, rules, sym, subst, ◌∙◌, [], true, false, IsTrue, ◌↔◌}
 use Rattle.keep_event.specs.Device.{State, initial}
+use Rattle.keep_run.specs.Askable.{AreAskable}
 use Rattle.keep_run.proofs.Replies.{told_at}
 use Rattle.keep_run.proofs.StoreRuns.{all_told, empty_initial, given_back, not_initial, opened_state, ran-lines, ran-memory, ran-not-empty, told_all, told_keeps}
 use Rattle.keep_run.proofs.call.run_store.Goals as goal
@@ -7,8 +8,8 @@ use Rattle.keep_run.proofs.call.run_store.Goals as goal
 pub run_lines-status-requires-clause-sound : goal.run_lines-status-requires-clause-sound
 run_lines-status-requires-clause-sound g c = record {
   device_rules = c.in-Ok.ensures.opened.rules ∙ c.rules_of.ensures.rules;
-  table_rules = c.table_new.ensures.rules;
-  askable = tt;
+  table_rules = c.new.ensures.rules ∙ c.rules_of-2.ensures;
+  askable = let none : c.new-2.result.entries ≡ [] = search rules in subst AreAskable (sym none) tt;
 }
 
 pub returns-in-Err-NoMemory-clause-told : goal.returns-in-Err-NoMemory-clause-told

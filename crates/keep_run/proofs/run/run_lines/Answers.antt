@@ -23,11 +23,11 @@ loop-line-init g c = record {
 pub returns-in-Ok-None-clause-told : goal.returns-in-Ok-None-clause-told
 returns-in-Ok-None-clause-told g c =
     let next = rw c.in-Ok-None.field-0-is at c.in-Ok-None.ensures.told in
-    AllTold-map _ _ _ _ _ (λ bytes s t going. ended-done _ (beginning _ _ bytes s t) _ _ _ _ _ _ _ going (scene-state _ _ going.scene_is) (next c.loop-line.invariant.fine)) c.loop-line.invariant.told
+    AllTold-map _ _ _ _ _ (λ bytes s t going. ended-done _ (beginning _ _ bytes s t) _ _ _ _ _ _ _ going (scene-state c.loop-line.stage _ going.scene_is) (next c.loop-line.invariant.fine)) c.loop-line.invariant.told
 
 pub returns-in-Err-clause-told : goal.returns-in-Err-clause-told
 returns-in-Err-clause-told g c =
-    rw c.status_of.ensures (AllTold-map _ _ _ _ _ (λ bytes s t going. ended-error _ (beginning _ _ bytes s t) _ _ _ _ _ _ _ c.in-Err.error going (scene-state _ _ going.scene_is) (c.in-Err.ensures.told c.loop-line.invariant.fine)) c.loop-line.invariant.told)
+    rw c.status_of.ensures (AllTold-map _ _ _ _ _ (λ bytes s t going. ended-error _ (beginning _ _ bytes s t) _ _ _ _ _ _ _ c.in-Err.error going (scene-state c.loop-line.stage _ going.scene_is) (c.in-Err.ensures.told c.loop-line.invariant.fine)) c.loop-line.invariant.told)
 
 pub returns-in-Err-run_line-clause-told : goal.returns-in-Err-run_line-clause-told
 returns-in-Err-run_line-clause-told g c =
