@@ -55,7 +55,7 @@ returns-in_err-push_end_line-clause-stopped g c =
     let there = found ∙ c.in-Some.is in
     let after = cluster c.ask_task.new.volume c.ask_task.new.table in
     let done = subst (λ w. IsTaskDone (turn config c.args.reading w c.in-Some.task) (cluster old.volume old.table) (cluster c.ask_task.new.volume c.ask_task.new.table)
-        c.args.out.now.items c.ask_task.new.out.items c.in_ok-outcome.field-0) c.as_slice.ensures c.in_ok-outcome.ensures.done in
+    c.args.out.now.items c.ask_task.new.out.items c.in_ok-outcome.field-0) c.as_slice.ensures c.in_ok-outcome.ensures.done in
     on_err {P = StopsCommand config (C.Finish name c.args.reading) old c.ask_task.new.volume} _
     (stops-task config old name c.args.reading c.ask_task.new.volume c.in-Some.task there (done-stopped config old name c.args.reading after c.in-Some.task _ _ _ done))
 
@@ -69,7 +69,7 @@ returns-in_err-set_name-clause-stopped g c =
     let there = found ∙ c.in-Some.is in
     let after = cluster c.ask_task.new.volume c.ask_task.new.table in
     let done = subst (λ w. IsTaskDone (turn config c.args.reading w c.in-Some.task) (cluster old.volume old.table) (cluster c.ask_task.new.volume c.ask_task.new.table)
-        c.args.out.now.items c.ask_task.new.out.items c.in_ok-outcome.field-0) c.as_slice.ensures c.in_ok-outcome.ensures.done in
+    c.args.out.now.items c.ask_task.new.out.items c.in_ok-outcome.field-0) c.as_slice.ensures c.in_ok-outcome.ensures.done in
     on_err {P = StopsCommand config (C.Finish name c.args.reading) old c.ask_task.new.volume} _
     (stops-task config old name c.args.reading c.ask_task.new.volume c.in-Some.task there (done-stopped config old name c.args.reading after c.in-Some.task _ _ _ done))
 
@@ -82,13 +82,13 @@ returns-clause-done g c = λ _.
     let found = ap (λ w. open_task_of (state_of_name w es)) (sym c.in_ok-duplicate.ensures) ∙ ap open_task_of (sym c.in_ok-state.ensures.previous) ∙ sym c.open_task_of.ensures in
     let there = found ∙ c.in-Some.is in
     let done = subst (λ w. IsTaskDone (turn config c.args.reading w c.in-Some.task) (cluster old.volume old.table) (cluster c.ask_task.new.volume c.ask_task.new.table)
-        c.args.out.now.items c.ask_task.new.out.items c.in_ok-outcome.field-0) c.as_slice.ensures c.in_ok-outcome.ensures.done in
+    c.args.out.now.items c.ask_task.new.out.items c.in_ok-outcome.field-0) c.as_slice.ensures c.in_ok-outcome.ensures.done in
     let f = c.in_ok-outcome.field-0 in
     let first = c.in_ok-state.ensures.set ∙ ap (λ w. with_name w S.Ended es) c.in_ok-duplicate.ensures in
     let named = c.in_ok-set_name.ensures.set ∙ ap (λ w. with_name name w c.set_name.new.names.entries) c.state_after.ensures ∙ ap (with_name name (state_after f.outcome)) first ∙ with_name-twice name S.Ended (state_after f.outcome) es in
     let printed = c.in_ok-push_end_line.ensures ∙ ap (λ w. c.ask_task.new.out.items ++ end_line w f.outcome) c.as_slice-2.ensures in
     does-task config old name c.args.reading (record { volume = c.ask_task.new.volume; table = c.ask_task.new.table; names = c.set_name-2.new.names; events = old.events + f.events })
-        c.in-Some.task f _ _ _ there refl named printed done
+    c.in-Some.task f _ _ _ there refl named printed done
 
 pub returns-clause-sound : goal.returns-clause-sound
 returns-clause-sound g c =

@@ -41,7 +41,7 @@ returns-in-Err-clause-done g c =
     let named = c.in_ok-set_name-in-Err.ensures.set ∙ ap (λ v. with_name c.args.name v old.names.entries) c.state_after.ensures in
     let printed = c.in_ok-push_end_line-in-Err.ensures ∙ ap (λ v. c.args.out.now.items ++ end_line v c.in-Err.outcome) c.as_slice.ensures in
     does-open-ended c.args.config.now old c.args.name c.args.reading (record { volume = old.volume; table = old.table; names = c.set_name.new.names; events = old.events })
-        c.args.opening c.in-Err.outcome _ _ opens refl refl refl named printed
+    c.args.opening c.in-Err.outcome _ _ opens refl refl refl named printed
 
 pub returns-clause-done : goal.returns-clause-done
 returns-clause-done g c =
@@ -49,7 +49,7 @@ returns-clause-done g c =
     let opens = sym c.in_ok-task.ensures ∙ c.in-Ok.is in
     let named = c.in_ok-set_name.ensures.set ∙ ap (λ n. with_name c.args.name (S.Open c.in-Ok.task n) old.names.entries) c.len-actor.ensures.len in
     does-open-task c.args.config.now old c.args.name c.args.reading (record { volume = old.volume; table = old.table; names = c.set_name-2.new.names; events = old.events })
-        c.args.opening c.in-Ok.task _ _ opens refl refl refl named refl
+    c.args.opening c.in-Ok.task _ _ opens refl refl refl named refl
 
 pub returns-in-Err-clause-sound : goal.returns-in-Err-clause-sound
 returns-in-Err-clause-sound g c =
