@@ -1,6 +1,8 @@
 //! Times what a library does alone: takes the name of a task, reads its input from standard input, and prints a few counts.
 #![tactic(auto)]
 
+mod wire;
+
 use anyhow::Result;
 use keep_config::Config;
 use keep_event::{Block, DeviceAnswer, DeviceRules};
@@ -157,6 +159,9 @@ fn main(rt: HostRuntime) -> Result<()> {
             "config" => read_configurations(&rt, &input)?,
             "volume" => put_blocks(&rt, &input)?,
             "normal" => normal(&rt, &input)?,
+            "requests" => wire::read_requests(&rt, &input, 65536)?,
+            "requests-by-byte" => wire::read_requests(&rt, &input, 1)?,
+            "heads" => wire::parse_heads(&rt, &input)?,
             _ => println!(rt; "no task {task}")?,
         }
     }

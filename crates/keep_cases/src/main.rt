@@ -17,6 +17,7 @@ mod stores;
 mod subjects;
 mod tables;
 mod texts;
+mod wire;
 
 use crate::answer::{Answer, first_difference};
 use crate::book::{Book, Case};

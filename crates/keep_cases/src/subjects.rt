@@ -3,6 +3,7 @@ use crate::answer::Answer;
 use crate::book::Case;
 use crate::{
     configurations, devices, locators, manifests, names, runs, signing, statuses, tables, texts,
+    wire,
 };
 use std::alloc::Global;
 
@@ -21,6 +22,8 @@ pub fn answer_to(alloc: Global, subject: &str, case: &Case, answer: &mut Answer)
         "names" => names::answer(alloc, case, answer),
         "normals" => manifests::answer(alloc, subject, case, answer),
         "portables" => texts::answer(subject, case, answer),
+        "requests" => wire::answer(alloc, subject, case, answer),
+        "responses" => wire::answer(alloc, subject, case, answer),
         "runs" => runs::answer(alloc, case, answer),
         "signatures" => signing::answer_signatures(case, answer),
         "signed" => signing::answer_signed(alloc, case, answer),
