@@ -6,11 +6,13 @@ mod wire;
 use anyhow::Result;
 use keep_config::Config;
 use keep_event::{Block, DeviceAnswer, DeviceRules};
+use keep_lists::{read_index, read_lists, write_index, write_lists};
 use keep_locator::Locator;
 use keep_manifest::{BadManifest, Manifest, read, write};
 use keep_normal::{NormalError, normalize};
+use keep_order::order;
 use keep_sign::sign_manifest;
-use keep_spec::{Bytes, NoMemory};
+use keep_spec::{Bytes, Digest, NoMemory, Uuid};
 use keep_store::MemoryStore;
 use keep_volume::Volume;
 use std::alloc::Global;
@@ -148,6 +150,90 @@ fn print_text(rt: &HostRuntime, text: std::result::Result<Bytes, NoMemory>) -> R
     Ok(())
 }
 
+// The first line is a configuration, the rest a text; none where there is no newline.
+fn split_line(input: &[u8]) -> Option<(&[u8], &[u8])> {
+    let end = input.iter().position(|byte| *byte == b'\n')?;
+    let (line, rest) = input.split_at_checked(end)?;
+    Some((line, rest.get(1..).unwrap_or(b"")))
+}
+
+// One block's digits a line: the order of the configuration's servers for each.
+fn orders(rt: &HostRuntime, input: &[u8]) -> Result<()> {
+    let Some((line, rest)) = split_line(input) else {
+        println!(rt; "no configuration")?;
+        return Ok(());
+    };
+    let Ok(config) = Config::read(rt.alloc(), line) else {
+        println!(rt; "no configuration")?;
+        return Ok(());
+    };
+    let mut services: Vec<Uuid> = Vec::new(rt.alloc());
+    for server in config.servers.as_slice() {
+        services.push(server.uuid)?;
+    }
+    let mut first: u64 = 0;
+    let mut blocks: u64 = 0;
+    for text in rest.split(|byte| *byte == b'\n') {
+        let Some(digest) = Digest::read(text) else {
+            continue;
+        };
+        let Ok(places) = order(rt.alloc(), &digest, &services) else {
+            continue;
+        };
+        blocks = blocks.saturating_add(1);
+        if places.first() == Some(&0) {
+            first = first.saturating_add(1);
+        }
+    }
+    println!(rt; "{blocks} blocks, {first} on server 0")?;
+    Ok(())
+}
+
+// An index, read and written again.
+fn index(rt: &HostRuntime, input: &[u8], is_written: bool) -> Result<()> {
+    let Ok(entries) = read_index(rt.alloc(), input) else {
+        println!(rt; "no index")?;
+        return Ok(());
+    };
+    let count = entries.len();
+    if !is_written {
+        println!(rt; "{count} entries")?;
+        return Ok(());
+    }
+    match write_index(rt.alloc(), &entries) {
+        Ok(text) if text.as_slice() == input => println!(rt; "{count} entries, written again")?,
+        Ok(_) => println!(rt; "{count} entries, written otherwise")?,
+        Err(_) => println!(rt; "no memory")?,
+    }
+    Ok(())
+}
+
+// A configuration's line, and the lists of its device 0, read and written again.
+fn lists(rt: &HostRuntime, input: &[u8]) -> Result<()> {
+    let Some((line, text)) = split_line(input) else {
+        println!(rt; "no configuration")?;
+        return Ok(());
+    };
+    let Ok(config) = Config::read(rt.alloc(), line) else {
+        println!(rt; "no configuration")?;
+        return Ok(());
+    };
+    let Ok(lists) = read_lists(rt.alloc(), text, &config, 0) else {
+        println!(rt; "no lists")?;
+        return Ok(());
+    };
+    let trash = lists.trash.len();
+    let pull = lists.pull.len();
+    match write_lists(rt.alloc(), &lists, &config, 0) {
+        Ok(again) if again.as_slice() == text => println!(rt;
+            "{trash} trash, {pull} pull, written again"
+        )?,
+        Ok(_) => println!(rt; "{trash} trash, {pull} pull, written otherwise")?,
+        Err(_) => println!(rt; "no memory")?,
+    }
+    Ok(())
+}
+
 fn main(rt: HostRuntime) -> Result<()> {
     let mut input = Vec::new(rt.alloc());
     rt.reader().read_to_end(&mut input)?;
@@ -162,6 +248,10 @@ fn main(rt: HostRuntime) -> Result<()> {
             "requests" => wire::read_requests(&rt, &input, 65536)?,
             "requests-by-byte" => wire::read_requests(&rt, &input, 1)?,
             "heads" => wire::parse_heads(&rt, &input)?,
+            "order" => orders(&rt, &input)?,
+            "index" => index(&rt, &input, true)?,
+            "read-index" => index(&rt, &input, false)?,
+            "lists" => lists(&rt, &input)?,
             _ => println!(rt; "no task {task}")?,
         }
     }

@@ -2,8 +2,8 @@
 use crate::answer::Answer;
 use crate::book::Case;
 use crate::{
-    configurations, devices, locators, manifests, names, runs, signing, statuses, tables, texts,
-    wire,
+    configurations, devices, indexes, lists, locators, manifests, names, orders, runs, signing,
+    statuses, tables, texts, wire,
 };
 use std::alloc::Global;
 
@@ -16,11 +16,14 @@ pub fn answer_to(alloc: Global, subject: &str, case: &Case, answer: &mut Answer)
         "digests" => texts::answer(subject, case, answer),
         "files" => manifests::answer(alloc, subject, case, answer),
         "hashes" => manifests::answer_hash(alloc, case, answer),
+        "indexes" => indexes::answer(alloc, case, answer),
+        "lists" => lists::answer(alloc, case, answer),
         "locators" => locators::answer(case, answer),
         "macs" => signing::answer_mac(alloc, case, answer),
         "manifests" => manifests::answer(alloc, subject, case, answer),
         "names" => names::answer(alloc, case, answer),
         "normals" => manifests::answer(alloc, subject, case, answer),
+        "orders" => orders::answer(alloc, case, answer),
         "portables" => texts::answer(subject, case, answer),
         "requests" => wire::answer(alloc, subject, case, answer),
         "responses" => wire::answer(alloc, subject, case, answer),

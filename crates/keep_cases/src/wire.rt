@@ -55,7 +55,7 @@ impl<'a> Source for Pieces<'a> {
     }
 }
 
-fn pieces<'a>(case: &'a Case, cut: usize, most: usize, ends_failing: bool) -> Pieces<'a> {
+fn from_pieces<'a>(case: &'a Case, cut: usize, most: usize, ends_failing: bool) -> Pieces<'a> {
     Pieces {
         bytes: case.input(),
         cut,
