@@ -10,10 +10,7 @@ ghost use Rattle.keep_event.specs.declared.names.Name.{Name as TheName};
 ghost use Rattle.keep_event.specs.declared.names.Stored.{Stored as TheStored};
 
 use keep_event::{Held, Metadata, Name, Stored};
-
-/// A call to the outside failed: the store counts it among its faults, and is unchanged.
-#[derive(Clone, Copy, Debug, PartialEq, Eq)]
-pub struct Failed;
+use keep_spec::Failed;
 
 /// Why a store refused a call that may want memory. Either way the store is unchanged.
 #[derive(Clone, Copy, Debug, PartialEq, Eq)]

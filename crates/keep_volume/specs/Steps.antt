@@ -6,7 +6,7 @@ use Rattle.keep_event.specs.declared.names.Name.{Name}
 use Rattle.keep_event.specs.declared.names.Stored.{Stored}
 use Rattle.keep_event.specs.declared.device.DeviceAnswer.{DeviceAnswer}
 use Rattle.keep_event.specs.declared.device.DeviceAnswer.TheVariants as answers
-use Rattle.keep_store.specs.declared.store.Failed.{Failed}
+use Rattle.keep_spec.specs.declared.failed.Failed.{Failed}
 use Rattle.keep_volume.specs.Calls.{Device, over, state_of}
 
 -- a call of the store that fails changes nothing
