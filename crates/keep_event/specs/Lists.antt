@@ -100,13 +100,3 @@ lists_of_object c d x None pull = Err 0
 unfoldable pub lists_of : Configuration → ℕ → List ℕ → Result Lists ℕ
 lists_of c d text =
     option_map_or (λ x. lists_of_object c d x (array_at (codes "trash") x) (array_at (codes "pull") x)) (value_of text) (Err 0)
-
--- ---- what is read again
-
--- a size of 19 digits at most, and sources that are configured
-pub record IsWritablePull (c : Configuration) (p : PullItem) : Type 0 where
-  pub size : p.size < 10 ^ 19
-  pub sources : AllByRecursion (λ s. s < length c.devices) p.sources
-
-abbrev pub AreWritable : Configuration → Lists → Type 0
-AreWritable c lists = AllByRecursion (λ t. t.size < 10 ^ 19) lists.trash × AllByRecursion (λ p. p.size < 10 ^ 19) lists.pull
