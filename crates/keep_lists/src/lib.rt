@@ -5,12 +5,12 @@ mod error;
 mod index;
 mod laws;
 mod locator;
-mod reading;
+mod parsing;
 mod writing;
 
 pub use error::{IndexError, ListsError};
 pub use index::{read_index, write_index};
 pub use keep_event::{Entry, Lists, PullItem, TrashItem};
 pub use laws::{cut_indexes_are_cut_off, written_indexes_are_read_again};
-pub use reading::read_lists;
+pub use parsing::read_lists;
 pub use writing::write_lists;

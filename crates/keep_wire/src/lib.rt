@@ -2,12 +2,12 @@
 #![tactic(auto)]
 
 mod fields;
+mod filling;
 mod head;
 mod laws;
 mod lines;
 mod message;
 mod reader;
-mod reading;
 mod replies;
 mod request_head;
 mod requests;

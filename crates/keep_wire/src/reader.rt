@@ -6,7 +6,7 @@ ghost use Rattle.keep_wire.specs.Looks.{IsFound, SameBytes, IsBegunNext, IsBodyN
 ghost use Rattle.keep_wire.specs.Messages.{IsNext};
 
 use crate::head::{Begun, Message};
-use crate::reading::{fill, fill_body, look};
+use crate::filling::{fill, fill_body, look};
 use crate::{BODY_MAX, Source, WireError};
 use keep_base::Bytes;
 use std::alloc::{AllocError, Global};

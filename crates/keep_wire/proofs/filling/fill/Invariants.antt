@@ -1,6 +1,6 @@
 use Rattle.std.proofs.Common.{◌≤◌, ◌-◌, vec_len}
 use Rattle.std.specs.Io.KnownBytes.{prepend_known, Keeps}
-use Rattle.keep_wire.proofs.reading.fill.Given as goal
+use Rattle.keep_wire.proofs.filling.fill.Given as goal
 
 abbrev pub invariant-loop-pending : goal.invariant-loop-pending
 invariant-loop-pending g l = record {

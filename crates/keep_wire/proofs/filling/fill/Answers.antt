@@ -1,7 +1,7 @@
 use Rattle.std.proofs.Common.{List, ℕ, subst, Err}
 use Rattle.keep_wire.specs.Looks.{IsLooked}
 use Rattle.keep_wire.proofs.Known.{found-from_looked}
-use Rattle.keep_wire.proofs.reading.fill.Goals as goal
+use Rattle.keep_wire.proofs.filling.fill.Goals as goal
 
 pub returns-in-Err-look-clause-found : goal.returns-in-Err-look-clause-found
 returns-in-Err-look-clause-found g c =

@@ -2,7 +2,7 @@ use Rattle.std.proofs.Common.{◌≡◌, ◌≤◌, List, ℕ, length, take, Ok,
 use Rattle.std.proofs.lemmas.List.{length-take}
 use Rattle.keep_wire.specs.Looks.{IsOpen, IsLooked}
 use Rattle.keep_wire.proofs.Longer.{begun-from_front, refused-from_front, long-from_front, open-from_front}
-use Rattle.keep_wire.proofs.reading.look.Goals as goal
+use Rattle.keep_wire.proofs.filling.look.Goals as goal
 
 pub look-requires : goal.look-requires
 look-requires g c =

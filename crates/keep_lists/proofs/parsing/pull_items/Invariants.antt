@@ -2,7 +2,7 @@ use Rattle.std.proofs.Common.{◌≡◌, ◌+◌, ◌++◌, drop, Ok}
 use Rattle.serde_json.specs.View.{items_view}
 use Rattle.keep_spec.specs.Results.{◌>>=◌}
 use Rattle.keep_event.specs.Lists.{pull_item_of, each_from}
-use Rattle.keep_lists.proofs.reading.pull_items.Given as goal
+use Rattle.keep_lists.proofs.parsing.pull_items.Given as goal
 
 -- the items so far, and then those of the values that are left
 abbrev pub invariant-loop-place : goal.invariant-loop-place
