@@ -103,7 +103,7 @@ fn fill<R: Source>(source: &mut R, pending: &mut Vec<u8>, taken: u64) -> Result<
     requires { taken ≤ INPUT_MAX }
     ensures found { IsFound taken result pending.new.items (R.left source.new) }
     ensures bytes { SameBytes result pending.old.items (R.left source.old) pending.new.items (R.left source.new) }
-    ensures later { R.faults source.old ≤ R.faults source.new }
+    ensures never_falls { R.faults source.old ≤ R.faults source.new }
     ensures cause { IsErrOf result Stop.ReadFault → Rose (R.faults source.old) (R.faults source.new) }
 {
     let mut scanned = 0;
@@ -168,7 +168,7 @@ fn find<R: Source>(
     ensures within { start.new ≤ vec_len pending.new }
     ensures found { IsFound taken result (drop start.new pending.new.items) (R.left source.new) }
     ensures bytes { SameBytes result (drop start.old pending.old.items) (R.left source.old) (drop start.new pending.new.items) (R.left source.new) }
-    ensures later { R.faults source.old ≤ R.faults source.new }
+    ensures never_falls { R.faults source.old ≤ R.faults source.new }
     ensures cause { IsErrOf result Stop.ReadFault → Rose (R.faults source.old) (R.faults source.new) }
 {
     if let Some(text) = newline_from(&pending[*start..], 0) {
@@ -217,15 +217,15 @@ impl<'a, R: Source> Lines<'a, R> {
     /// After an error each call returns the same error.
     pub fn next(&mut self) -> Result<Option<Line>, LineError>
         ensures same_reference { lines_name self.new ≡ lines_name self.old }
-        ensures told { (lines_failed self.old) ≡ None →
+        ensures next_line { (lines_failed self.old) ≡ None →
             IsNext (lines_taken self.old) (lines_number self.old) (lines_left self.old) result (lines_taken self.new) (lines_left self.new) }
         ensures ended { result ≡ Ok None → IsEnd self.old self.new }
         ensures number { IfOk result (λ o. IfSome o (λ line. (line.number ≡ lines_number self.new) × (lines_number self.new ≡ lines_number self.old + 1))) }
         ensures advances { IfOk result (λ o. IfSome o (λ _. (lines_taken self.old) < (lines_taken self.new))) }
-        ensures fine { OnOk result ((lines_failed self.old ≡ None) × (lines_failed self.new ≡ None)) }
+        ensures unfailed { OnOk result ((lines_failed self.old ≡ None) × (lines_failed self.new ≡ None)) }
         ensures failed { IfErr result (λ e. (lines_failed self.new) ≡ Some e) }
         ensures same_error { IfSome (lines_failed self.old) (λ e. result ≡ Err e) }
-        ensures later { R.faults (lines_source self.old) ≤ R.faults (lines_source self.new) }
+        ensures never_falls { R.faults (lines_source self.old) ≤ R.faults (lines_source self.new) }
         ensures cause { result ≡ Err LineError.ReadFault → (lines_failed self.old) ≡ None → Rose (R.faults (lines_source self.old)) (R.faults (lines_source self.new)) }
     {
         if let Some(error) = self.failed {
@@ -240,12 +240,12 @@ impl<'a, R: Source> Lines<'a, R> {
 
     fn advance(&mut self) -> Result<Option<Line>, LineError>
         ensures same_reference { lines_name self.new ≡ lines_name self.old }
-        ensures told { IsNext (lines_taken self.old) (lines_number self.old) (lines_left self.old) result (lines_taken self.new) (lines_left self.new) }
+        ensures next_line { IsNext (lines_taken self.old) (lines_number self.old) (lines_left self.old) result (lines_taken self.new) (lines_left self.new) }
         ensures ended { result ≡ Ok None → IsEnd self.old self.new }
         ensures number { IfOk result (λ o. IfSome o (λ line. (line.number ≡ lines_number self.new) × (lines_number self.new ≡ lines_number self.old + 1))) }
         ensures advances { IfOk result (λ o. IfSome o (λ _. (lines_taken self.old) < (lines_taken self.new))) }
         ensures failed { (lines_failed self.new) ≡ (lines_failed self.old) }
-        ensures later { R.faults (lines_source self.old) ≤ R.faults (lines_source self.new) }
+        ensures never_falls { R.faults (lines_source self.old) ≤ R.faults (lines_source self.new) }
         ensures cause { result ≡ Err LineError.ReadFault → Rose (R.faults (lines_source self.old)) (R.faults (lines_source self.new)) }
     {
         let found = match find(self.source, &mut self.pending, &mut self.start, self.taken) {

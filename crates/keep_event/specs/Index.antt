@@ -52,9 +52,9 @@ is_above None e = true
 is_above (Some before) e = is_lt (slice_cmp nat_cmp before.digest e.digest)
 
 -- a whole line that follows the empty line is bad
-abbrev pub first_behind : ℕ → List (List ℕ) → Option ℕ
-first_behind at [] = None
-first_behind at (p ∷ ps) = if is_whole p then Some at else None
+abbrev pub first_after : ℕ → List (List ℕ) → Option ℕ
+first_after at [] = None
+first_after at (p ∷ ps) = if is_whole p then Some at else None
 
 -- a line that isn't empty is bad where it has no entry, or one that isn't above the entry before it
 abbrev pub bad_line : ℕ → Option Entry → Option Entry → (Entry → Option ℕ) → Option ℕ
@@ -66,7 +66,7 @@ abbrev pub first_bad : ℕ → Option Entry → List (List ℕ) → Option ℕ
 first_bad at before [] = None
 first_bad at before (p ∷ ps) =
     if is_whole p
-    then (if is_empty_line p then first_behind (at + length p) ps
+    then (if is_empty_line p then first_after (at + length p) ps
     else bad_line at before (entry_of_line (text_of p)) (λ e. first_bad (at + length p) (Some e) ps))
     else None
 

@@ -11,7 +11,7 @@ use Rattle.keep_spec.specs.Lines.{cut, text_of}
 use Rattle.keep_spec.specs.Results.{◌>>=◌}
 use Rattle.keep_base.specs.Ends.{IsPlain}
 use Rattle.keep_base.proofs.Cut.{cut-newline, text_of-newline, cut-plain}
-use Rattle.keep_event.specs.Index.{is_whole, is_empty_line, is_above, entry_of_line, first_behind, bad_line, first_bad, has_ended, Fault, bad, cut_off, index_of_pieces, index_of}
+use Rattle.keep_event.specs.Index.{is_whole, is_empty_line, is_above, entry_of_line, first_after, bad_line, first_bad, has_ended, Fault, bad, cut_off, index_of_pieces, index_of}
 use Rattle.keep_event.specs.declared.lists.Entry.{Entry}
 use Rattle.keep_lists.specs.Answers.{ended_at}
 
@@ -64,7 +64,7 @@ first-line xs n e =
 -- ---- what stands first among pieces
 abbrev first_of : Bool → Bool → ℕ → Option Entry → List ℕ → List (List ℕ) → Option Entry → Option ℕ
 first_of whole empty at before p ps o =
-    if whole then (if empty then first_behind (at + length p) ps else bad_line at before o (λ e. first_bad (at + length p) (Some e) ps)) else None
+    if whole then (if empty then first_after (at + length p) ps else bad_line at before o (λ e. first_bad (at + length p) (Some e) ps)) else None
 
 first-is : (p : List ℕ) (ps : List (List ℕ)) (at : ℕ) (before : Option Entry) (whole empty : Bool) (o : Option Entry) → is_whole p ≡ whole → is_empty_line p ≡ empty → entry_of_line (text_of p) ≡ o →
     first_bad at before (p ∷ ps) ≡ first_of whole empty at before p ps o
@@ -135,43 +135,43 @@ pub not-above : (p : List ℕ) (e : Entry) (ps : List (List ℕ)) (at : ℕ) (be
 not-above p e ps at before whole full is above =
     ap (index_of_pieces (p ∷ ps)) (first-is p ps at before true false (Some e) whole full is ∙ ap (λ b. if b then first_bad (at + length p) (Some e) ps else Some at) above)
 
-pub ends : (p : List ℕ) (ps : List (List ℕ)) (at : ℕ) (before : Option Entry) → is_whole p ≡ true → is_empty_line p ≡ true → result_from at before (p ∷ ps) ≡ index_of_pieces (p ∷ ps) (first_behind (at + length p) ps)
+pub ends : (p : List ℕ) (ps : List (List ℕ)) (at : ℕ) (before : Option Entry) → is_whole p ≡ true → is_empty_line p ≡ true → result_from at before (p ∷ ps) ≡ index_of_pieces (p ∷ ps) (first_after (at + length p) ps)
 ends p ps at before whole empty = ap (index_of_pieces (p ∷ ps)) (first-is p ps at before true true (entry_of_line (text_of p)) whole empty refl)
 
 -- ---- what follows the empty line
-abbrev pub behind_empty : List ℕ → ℕ → List (List ℕ) → Result (List Entry) Fault
-behind_empty p at ps = index_of_pieces (p ∷ ps) (first_behind at ps)
+abbrev pub after_empty : List ℕ → ℕ → List (List ℕ) → Result (List Entry) Fault
+after_empty p at ps = index_of_pieces (p ∷ ps) (first_after at ps)
 
-whole-behind : (p q : List ℕ) (qs : List (List ℕ)) (at : ℕ) → is_whole q ≡ true → behind_empty p at (q ∷ qs) ≡ Err (bad at)
+whole-behind : (p q : List ℕ) (qs : List (List ℕ)) (at : ℕ) → is_whole q ≡ true → after_empty p at (q ∷ qs) ≡ Err (bad at)
 whole-behind p q qs at w = ap (λ b. index_of_pieces (p ∷ q ∷ qs) (if b then Some at else None)) w
 
-part-behind : (p q : List ℕ) (at : ℕ) → is_whole q ≡ false → behind_empty p at (q ∷ []) ≡ Err cut_off
+part-behind : (p q : List ℕ) (at : ℕ) → is_whole q ≡ false → after_empty p at (q ∷ []) ≡ Err cut_off
 part-behind p q at w =
     ap (λ b. index_of_pieces (p ∷ q ∷ []) (if b then Some at else None)) w
     ∙ ap (λ b. if b && is_empty_line q then Ok (filter_map (λ v. entry_of_line (text_of v)) (p ∷ q ∷ [])) else Err cut_off) w
 
-pub line-behind : (p xs : List ℕ) (n at : ℕ) → position (λ b. b == 10) xs ≡ Some n → behind_empty p at (cut xs) ≡ Err (bad at)
+pub line-behind : (p xs : List ℕ) (n at : ℕ) → position (λ b. b == 10) xs ≡ Some n → after_empty p at (cut xs) ≡ Err (bad at)
 line-behind p xs n at e =
     let f = first-line xs n e in
-    ap (behind_empty p at) f.pieces ∙ whole-behind p (take (suc n) xs) (cut (drop (suc n) xs)) at f.whole
+    ap (after_empty p at) f.pieces ∙ whole-behind p (take (suc n) xs) (cut (drop (suc n) xs)) at f.whole
 
-pub rest-behind : (p xs : List ℕ) (at : ℕ) → position (λ b. b == 10) xs ≡ None → 0 < length xs → behind_empty p at (cut xs) ≡ Err cut_off
+pub rest-behind : (p xs : List ℕ) (at : ℕ) → position (λ b. b == 10) xs ≡ None → 0 < length xs → after_empty p at (cut xs) ≡ Err cut_off
 rest-behind p [] at e some = absurd (omega arith)
 rest-behind p (x ∷ xs) at e some =
     let plain = position-plain (x ∷ xs) e in
-    ap (behind_empty p at) (cut-plain x xs plain) ∙ part-behind p (x ∷ xs) at (plain-none (x ∷ xs) plain)
+    ap (after_empty p at) (cut-plain x xs plain) ∙ part-behind p (x ∷ xs) at (plain-none (x ∷ xs) plain)
 
-pub none-behind : (at : ℕ) → behind_empty (10 ∷ []) at (cut []) ≡ Ok []
+pub none-behind : (at : ℕ) → after_empty (10 ∷ []) at (cut []) ≡ Ok []
 unfolding cut text_of entry_of_line
 none-behind at = refl
 
-ok-or-cut : (xs : List ℕ) (o : Option ℕ) (p : List ℕ) (at : ℕ) (es : List Entry) → position (λ b. b == 10) xs ≡ o → behind_empty p at (cut xs) ≡ Ok es → length xs ≡ 0
+ok-or-cut : (xs : List ℕ) (o : Option ℕ) (p : List ℕ) (at : ℕ) (es : List Entry) → position (λ b. b == 10) xs ≡ o → after_empty p at (cut xs) ≡ Ok es → length xs ≡ 0
 ok-or-cut [] o p at es e is = refl
 ok-or-cut (x ∷ xs) None p at es e is = (let f = sym (rest-behind p (x ∷ xs) at e (omega arith)) ∙ is in cc f)
 ok-or-cut (x ∷ xs) (Some n) p at es e is = (let f = sym (line-behind p (x ∷ xs) n at e) ∙ is in cc f)
 
 -- where an index has ended, no byte is left
-pub nothing-left : (p xs : List ℕ) (at : ℕ) (es : List Entry) → behind_empty p at (cut xs) ≡ Ok es → length xs ≡ 0
+pub nothing-left : (p xs : List ℕ) (at : ℕ) (es : List Entry) → after_empty p at (cut xs) ≡ Ok es → length xs ≡ 0
 nothing-left p xs at es is = ok-or-cut xs (position (λ b. b == 10) xs) p at es refl is
 
 -- the last of the entries so far
@@ -205,7 +205,7 @@ empty-first xs at before e =
     let one = take-newline xs f.within f.newline in
     let empty : is_empty_line (take 1 xs) ≡ true = ap (λ (v : List ℕ). length v == 0) f.text in
     ap (result_from at before) f.pieces ∙ ends (take 1 xs) (cut (drop 1 xs)) at before f.whole empty
-    ∙ ap (λ p. index_of_pieces (p ∷ cut (drop 1 xs)) (first_behind (at + length p) (cut (drop 1 xs)))) one
+    ∙ ap (λ p. index_of_pieces (p ∷ cut (drop 1 xs)) (first_after (at + length p) (cut (drop 1 xs)))) one
 
 pub full-first : (xs : List ℕ) (n : ℕ) → FirstLine xs n → (n ≡ 0 → ⊥) → is_empty_line (take (suc n) xs) ≡ false
 full-first xs n f some =

@@ -1,7 +1,7 @@
 -- The answers of the readers: what a text says, or memory was refused.
 use Rattle.std.specs.Prelude.{◌≡◌, ℕ, List, [], ◌∷◌, Vec, Option, Some, None, Result, Ok, Err, ⊤}
 use Rattle.std.specs.declared.alloc.Global.{Global}
-use Rattle.keep_event.specs.Index.{Fault, bad, cut_off, first_behind, index_of_pieces}
+use Rattle.keep_event.specs.Index.{Fault, bad, cut_off, first_after, index_of_pieces}
 use Rattle.keep_event.specs.declared.lists.Entry.{Entry}
 use Rattle.keep_event.specs.declared.lists.Lists.{Lists}
 use Rattle.keep_lists.specs.declared.locator.BareLocator.{BareLocator}
@@ -28,7 +28,7 @@ AreItemsRead said (Err lists.NoMemory) = ⊤
 
 -- what is said of a text whose empty line was read: what follows it begins at an offset
 abbrev pub ended_at : ℕ → List (List ℕ) → Result (List Entry) Fault
-ended_at at pieces = index_of_pieces ((10 ∷ []) ∷ pieces) (first_behind at pieces)
+ended_at at pieces = index_of_pieces ((10 ∷ []) ∷ pieces) (first_after at pieces)
 
 abbrev pub IsEndRead : Result (List Entry) Fault → Result ⊤ IndexError → Type 0
 IsEndRead said (Ok x) = said ≡ Ok []

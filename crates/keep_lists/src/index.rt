@@ -8,7 +8,7 @@ ghost use Rattle.keep_event.specs.Index.{index_line, index_text, bare_locator, e
 ghost use Rattle.keep_lists.specs.Answers.{IsIndexRead, IsEndRead, ended_at};
 
 use crate::error::IndexError;
-use crate::locator::{behind_first, push_locator, push_number, read_locator};
+use crate::locator::{after_first, push_locator, push_number, read_locator};
 use keep_event::Entry;
 use keep_spec::{Bytes, NoMemory, read_number};
 use std::alloc::Global;
@@ -61,7 +61,7 @@ fn read_line(line: &[u8]) -> Option<Entry>
     match position_of(line, b' ') {
         Some(space) => {
             let (block, rest) = line.split_at(space);
-            entry_of(block, behind_first(rest))
+            entry_of(block, after_first(rest))
         }
         None => None,
     }
@@ -115,10 +115,10 @@ pub fn read_index(alloc: Global, text: &[u8]) -> Result<Vec<Entry>, IndexError>
     let mut rest = text;
     while let Some(end) = position_of(rest, b'\n') {
         let at = text.len() - rest.len();
-        let (line, behind) = rest.split_at(end);
-        let behind = behind_first(behind);
+        let (line, following) = rest.split_at(end);
+        let following = after_first(following);
         if end == 0 {
-            return match check_end(at + 1, behind) {
+            return match check_end(at + 1, following) {
                 Ok(()) => Ok(entries),
                 Err(error) => Err(error),
             };
@@ -131,7 +131,7 @@ pub fn read_index(alloc: Global, text: &[u8]) -> Result<Vec<Entry>, IndexError>
             }
             None => return Err(IndexError::BadIndex { at }),
         }
-        rest = behind;
+        rest = following;
     }
     Err(IndexError::CutIndex)
 }

@@ -14,7 +14,7 @@ pub(crate) struct BareLocator {
 }
 
 /// All bytes but the first.
-pub(crate) fn behind_first(bytes: &[u8]) -> &[u8]
+pub(crate) fn after_first(bytes: &[u8]) -> &[u8]
     requires { 0 < length bytes.now }
     ensures { result.now ≡ drop 1 bytes.now }
 {
@@ -32,7 +32,7 @@ pub(crate) fn read_locator(text: &[u8]) -> Option<BareLocator>
     if rest[0] != b'+' {
         return None;
     }
-    locator_of(Digest::read(digits), read_number(behind_first(rest)))
+    locator_of(Digest::read(digits), read_number(after_first(rest)))
 }
 
 fn locator_of(digest: Option<Digest>, size: Option<u64>) -> Option<BareLocator>

@@ -31,7 +31,7 @@ fn decode_bytes(alloc: Global, text: &[u8]) -> Result<Vec<u8>, AllocError>
 fn first_byte(text: &[u8]) -> (u8, usize)
     requires { 0 < length text.now }
     ensures byte { decode text.now ≡ result.0 ∷ decode (drop result.1 text.now) }
-    ensures some { 0 < result.1 }
+    ensures not_empty { 0 < result.1 }
     ensures within { result.1 ≤ length text.now }
 {
     if begins_escape(text) {

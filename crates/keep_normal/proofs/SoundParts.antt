@@ -1,5 +1,5 @@
 -- Sound parts stay sound.
--- Laws: `sound_is`, `sound_from`, `touch_is`, `both_sound`, `behind_sound`, `part_joins`, `span_joins`, `span_read`.
+-- Laws: `sound_is`, `sound_from`, `touch_is`, `both_sound`, `after_sound`, `part_joins`, `span_joins`, `span_read`.
 use Rattle.std.proofs.Common.{◌≡◌, ℕ, ◌+◌, ◌<◌, ◌≤◌, ltb, leb, eqb, Bool, true, false, cond, ◌&&◌, List, [], ◌∷◌, refl, ap, sym, ◌∙◌, arith, ◌^◌, add_assoc}
 use Rattle.std.specs.Str.{bytes_eq}
 use Rattle.std.proofs.lemmas.Bool.{and_parts, and_from, lt-ltb, le-leb, ltb-true, leb-true, eqb-true}
@@ -11,7 +11,7 @@ use Rattle.keep_normal.specs.Files.{touch, both_parts}
 use Rattle.keep_normal.specs.Normal.{meet, both_spans, span_in, start_at}
 use Rattle.keep_normal.specs.declared.span.Span.{Span}
 use Rattle.std.specs.Prelude.{unwrap_or}
-use Rattle.keep_normal.specs.Joined.{joined_behind}
+use Rattle.keep_normal.specs.Joined.{joined_after}
 use Rattle.keep_normal.specs.Sound.{is_sound, are_sound}
 use Rattle.keep_normal.proofs.JoinedNeighbours.{IsJoining}
 use Rattle.keep_normal.proofs.StrippedLocators.{size_same}
@@ -54,9 +54,9 @@ both_sound p q t hp hq =
     sound_from (both_parts p q) a.locator (omega (arith, a.some)) (omega (arith, a.some, b.ends, same, next))
 
 -- joined after others
-pub behind_sound : (ps : List Part) (q : Part) → are_sound ps ≡ true → is_sound q ≡ true → are_sound (joined_behind touch both_parts ps q) ≡ true
-behind_sound [] q h hq = and_from (is_sound q) true hq refl
-behind_sound (p ∷ []) q h hq = by_touch (touch p q) refl
+pub after_sound : (ps : List Part) (q : Part) → are_sound ps ≡ true → is_sound q ≡ true → are_sound (joined_after touch both_parts ps q) ≡ true
+after_sound [] q h hq = and_from (is_sound q) true hq refl
+after_sound (p ∷ []) q h hq = by_touch (touch p q) refl
   where
     hp : is_sound p ≡ true
     hp = (and_parts (is_sound p) true h).0
@@ -64,9 +64,9 @@ behind_sound (p ∷ []) q h hq = by_touch (touch p q) refl
     by_touch : (t : Bool) → touch p q ≡ t → are_sound (cond t (both_parts p q ∷ []) (p ∷ q ∷ [])) ≡ true
     by_touch true t = and_from (is_sound (both_parts p q)) true (both_sound p q t hp hq) refl
     by_touch false t = and_from (is_sound p) (are_sound (q ∷ [])) hp (and_from (is_sound q) true hq refl)
-behind_sound (p ∷ r ∷ rs) q h hq =
+after_sound (p ∷ r ∷ rs) q h hq =
     let parts = and_parts (is_sound p) (are_sound (r ∷ rs)) h in
-    and_from (is_sound p) (are_sound (joined_behind touch both_parts (r ∷ rs) q)) parts.0 (behind_sound (r ∷ rs) q parts.1 hq)
+    and_from (is_sound p) (are_sound (joined_after touch both_parts (r ∷ rs) q)) parts.0 (after_sound (r ∷ rs) q parts.1 hq)
 
 pub part_joins : IsJoining touch both_parts
 part_joins = record {

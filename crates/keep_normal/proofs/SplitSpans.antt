@@ -11,7 +11,7 @@ use Rattle.keep_normal.specs.declared.span.Span.{Span}
 use Rattle.keep_normal.specs.Files.{part_in, kept, parts_in, touch, both_parts, joined_parts}
 use Rattle.keep_normal.specs.Joined.{joined_before, joined}
 use Rattle.keep_normal.specs.Normal.{meet, both_spans}
-use Rattle.keep_normal.proofs.JoinedNeighbours.{before_two, joined_behind_same, one_or_two}
+use Rattle.keep_normal.proofs.JoinedNeighbours.{before_two, joined_after_same, one_or_two}
 use Rattle.keep_normal.proofs.SpanParts.{same_part, kept_none, kept_some, parts_behind}
 use Rattle.keep_normal.proofs.SoundParts.{part_joins}
 
@@ -105,7 +105,7 @@ split_behind start a b l ls rest e fa fb h ih =
     let same = same_part l l (max start a.from - start) (max start a.from - start) (min (start + size l) a.to - max start a.from) (min (start + size l) b.to - max start a.from) refl refl (omega arith) in
     ap (λ ps. joined_parts ((pa ++ more_a) ++ ((ps ++ more_b) ++ rest))) (kept_none (part_in start b l) (omega arith))
     ∙ ap joined_parts (append_assoc pa more_a (more_b ++ rest))
-    ∙ joined_behind_same touch both_parts pa (more_a ++ (more_b ++ rest)) (more ++ rest) ih
+    ∙ joined_after_same touch both_parts pa (more_a ++ (more_b ++ rest)) (more ++ rest) ih
     ∙ ap joined_parts (sym (append_assoc pa more rest))
     ∙ ap (λ p. joined_parts ((kept p ++ more) ++ rest)) same
 
@@ -157,4 +157,4 @@ parts-joined ls [] h = refl
 parts-joined ls (s ∷ ss) h =
     let parts = and_parts (is_forward s) (list_all is_forward ss) h in
     before_spans ls s (joined meet both_spans ss) parts.0 (forward-joined ss parts.1)
-    ∙ joined_behind_same touch both_parts (parts_in 0 s ls) (parts_of ls (joined meet both_spans ss)) (parts_of ls ss) (parts-joined ls ss parts.1)
+    ∙ joined_after_same touch both_parts (parts_in 0 s ls) (parts_of ls (joined meet both_spans ss)) (parts_of ls ss) (parts-joined ls ss parts.1)

@@ -12,7 +12,7 @@ joined touches both [] = []
 joined touches both (x ∷ xs) = joined_before touches both x (joined touches both xs)
 
 -- a list with one more at its end, joined to the last one where the two touch
-abbrev pub joined_behind : {X : Type 0} → (X → X → Bool) → (X → X → X) → List X → X → List X
-joined_behind touches both [] y = y ∷ []
-joined_behind touches both (x ∷ []) y = if touches x y then both x y ∷ [] else x ∷ y ∷ []
-joined_behind touches both (x ∷ z ∷ zs) y = x ∷ joined_behind touches both (z ∷ zs) y
+abbrev pub joined_after : {X : Type 0} → (X → X → Bool) → (X → X → X) → List X → X → List X
+joined_after touches both [] y = y ∷ []
+joined_after touches both (x ∷ []) y = if touches x y then both x y ∷ [] else x ∷ y ∷ []
+joined_after touches both (x ∷ z ∷ zs) y = x ∷ joined_after touches both (z ∷ zs) y

@@ -49,7 +49,7 @@ pub(crate) fn block_size(locator: &[u8]) -> u64
 
 // The last block that begins at `from` or before, by binary search.
 fn find_block(blocks: &[Block], from: u128) -> usize
-    requires some { 0 < length blocks.now }
+    requires not_empty { 0 < length blocks.now }
     requires first { (d : Block) → (slice_index_or blocks.now 0 d).start ≤ from }
     ensures within { result < length blocks.now }
     ensures before { (d : Block) → (slice_index_or blocks.now result d).start ≤ from }
@@ -74,7 +74,7 @@ pub(crate) fn parts_in(
     blocks: &[Block],
     span: Span,
 ) -> Result<Items<Part>, AllocError>
-    requires some { 0 < length locators.now }
+    requires not_empty { 0 < length locators.now }
     requires locators { IsTrue (list_all is_locator locators.now) }
     requires placed { blocks.now ≡ placed 0 locators.now }
     ensures { IfOk result (λ parts. parts ≡ parts_in 0 span locators.now) }

@@ -1,6 +1,6 @@
 // Parts and spans that touch, joined.
 ghost use Rattle.std.specs.Prelude.{◌≡◌, true, IsTrue, OnOk, fold};
-ghost use Rattle.keep_normal.specs.Joined.{joined_behind};
+ghost use Rattle.keep_normal.specs.Joined.{joined_after};
 ghost use Rattle.keep_normal.specs.Files.{touch, both_parts};
 ghost use Rattle.keep_normal.specs.Normal.{meet, both_spans};
 ghost use Rattle.keep_normal.specs.Sound.{is_sound, are_sound};
@@ -16,7 +16,7 @@ pub(crate) fn join_parts(parts: &mut Vec<Part>, more: Vec<Part>) -> Result<(), A
     requires more { IsTrue (are_sound more.items) }
     ensures sound { OnOk result (IsTrue (are_sound parts.new.items)) }
     ensures joined { OnOk result
-        (parts.new.items ≡ fold (joined_behind touch both_parts) parts.old.items more.items) }
+        (parts.new.items ≡ fold (joined_after touch both_parts) parts.old.items more.items) }
 {
     for part in more {
         join_part(parts, part)?;
@@ -28,7 +28,7 @@ fn join_part(parts: &mut Vec<Part>, part: Part) -> Result<(), AllocError>
     requires before { IsTrue (are_sound parts.old.items) }
     requires part { IsTrue (is_sound part) }
     ensures sound { OnOk result (IsTrue (are_sound parts.new.items)) }
-    ensures joined { OnOk result (parts.new.items ≡ joined_behind touch both_parts parts.old.items part) }
+    ensures joined { OnOk result (parts.new.items ≡ joined_after touch both_parts parts.old.items part) }
 {
     let Some(last) = parts.pop() else {
         parts.push(part)?;
@@ -72,7 +72,7 @@ fn both(first: Part, second: &Part) -> Part
 
 // Appends a span, joined to the last one where the two meet.
 pub(crate) fn join_span(spans: &mut Vec<Span>, span: Span) -> Result<(), AllocError>
-    ensures { OnOk result (spans.new.items ≡ joined_behind meet both_spans spans.old.items span) }
+    ensures { OnOk result (spans.new.items ≡ joined_after meet both_spans spans.old.items span) }
 {
     let Some(last) = spans.pop() else {
         spans.push(span)?;

@@ -19,7 +19,7 @@ use Rattle.keep_history.specs.declared.task.Task.{Task}
 use Rattle.keep_history.specs.declared.task.Task.TheVariants as T
 use Rattle.keep_history.specs.declared.task.TaskState.{TaskState}
 use Rattle.keep_history.specs.declared.task.TaskState.TheVariants as S
-use Rattle.keep_volume.specs.Calls.{Device, state_of}
+use Rattle.keep_volume.specs.Calls.{VolumeView, state_of}
 use Rattle.keep_history.specs.Effects.{Scene, Effect, Asked, open_effect, finish_effect, table_effect, task_effect, finish_state, asked_at, effect_of_command, state_after, event_lines, line_after_end, names_after}
 use Rattle.keep_history.specs.Names.{Names, state_of_name, with_name}
 use Rattle.keep_history.specs.Printed.{end_line, table_event_line}
@@ -84,13 +84,13 @@ module _ {X : Type 0} (config : Configuration) (old : Stage X) (name : List ℕ)
 
   pub does-open-task : (new : Stage X) (opening : Opening) (task : Task) (out_before out : List ℕ) → opened config opening reading ≡ Ok task → new.volume ≡ old.volume → new.events ≡ old.events → new.table.state ≡ old.table.state → new.names.entries ≡ with_name name (S.Open task (length old.names.entries)) old.names.entries → out ≡ out_before → DoesCommand config (C.Open name reading opening) old new out_before out
   does-open-task new opening task out_before out e same c tb n o = if_told _ (λ s is.
-      does-open-at new opening (Ok task) out_before out s e (ap state_of same ∙ is) (omega (arith, ap (λ (d : Device). d.faults) same)) c tb n (o ∙ sym (append-nil out_before)))
+      does-open-at new opening (Ok task) out_before out s e (ap state_of same ∙ is) (omega (arith, ap (λ (d : VolumeView). d.faults) same)) c tb n (o ∙ sym (append-nil out_before)))
 
   pub does-open-ended : (new : Stage X) (opening : Opening) (outcome : Outcome) (out_before out : List ℕ) → opened config opening reading ≡ Err outcome → new.volume ≡ old.volume → new.events ≡ old.events → new.table.state ≡ old.table.state → new.names.entries ≡ with_name name (state_after outcome) old.names.entries → out ≡ out_before ++ end_line name outcome → DoesCommand config (C.Open name reading opening) old new out_before out
   does-open-ended new opening outcome out_before out e same c tb n o = if_told _ (λ s is.
-      does-open-at new opening (Err outcome) out_before out s e (ap state_of same ∙ is) (omega (arith, ap (λ (d : Device). d.faults) same)) c tb n o)
+      does-open-at new opening (Err outcome) out_before out s e (ap state_of same ∙ is) (omega (arith, ap (λ (d : VolumeView). d.faults) same)) c tb n o)
 
-  stops-before-at : (device : Device) (command : Command) (s : State) → state_of device ≡ Some s → old.volume.faults ≤ device.faults → PartDone old.events s (state_of device) old.volume.faults device.faults (does command s)
+  stops-before-at : (device : VolumeView) (command : Command) (s : State) → state_of device ≡ Some s → old.volume.faults ≤ device.faults → PartDone old.events s (state_of device) old.volume.faults device.faults (does command s)
   stops-before-at device command s same le = record {
     made = 0;
     failed = [];
@@ -99,7 +99,7 @@ module _ {X : Type 0} (config : Configuration) (old : Stage X) (name : List ℕ)
   }
 
   -- nothing was done yet
-  pub stops-before : (device : Device) (command : Command) → state_of device ≡ state_of old.volume → old.volume.faults ≤ device.faults → StopsCommand config command old device
+  pub stops-before : (device : VolumeView) (command : Command) → state_of device ≡ state_of old.volume → old.volume.faults ≤ device.faults → StopsCommand config command old device
   stops-before device command same le = if_told _ (λ s is. stops-before-at device command s (same ∙ is) le)
 
   -- ---- finishing
@@ -148,7 +148,7 @@ module _ {X : Type 0} (config : Configuration) (old : Stage X) (name : List ℕ)
   left_after e asked s state zero f is = is
   left_after e asked s state (suc k) f (x, (at, is)) = (finish_effect (scene_with old s) name asked, (x, (f, at, is)))
 
-  stops-finish-at : (device : Device) (task : Task) (actor : ℕ) (s : State) → is_table task ≡ false → state_of_name name old.names.entries ≡ Some (S.Open task actor) → PartAsked old.events s (state_of device) old.volume.faults device.faults (asked_in (turn_of task) old.events actor s) → PartDone old.events s (state_of device) old.volume.faults device.faults (does (C.Finish name reading) s)
+  stops-finish-at : (device : VolumeView) (task : Task) (actor : ℕ) (s : State) → is_table task ≡ false → state_of_name name old.names.entries ≡ Some (S.Open task actor) → PartAsked old.events s (state_of device) old.volume.faults device.faults (asked_in (turn_of task) old.events actor s) → PartDone old.events s (state_of device) old.volume.faults device.faults (does (C.Finish name reading) s)
   stops-finish-at device task actor s d there p = record {
     made = p.made;
     failed = p.failed;
@@ -156,14 +156,14 @@ module _ {X : Type 0} (config : Configuration) (old : Stage X) (name : List ℕ)
     is = λ others agree. left_after _ (asked_at config others (scene_with old s) reading task actor) s (state_of device) p.made (effect-finish task actor others s d there) (p.is others agree);
   }
 
-  stops-finish : (device : Device) (task : Task) → is_table task ≡ false → open_task_of (state_of_name name old.names.entries) ≡ Some task → IsPartFinished (turn_of task) old.volume device → StopsCommand config (C.Finish name reading) old device
+  stops-finish : (device : VolumeView) (task : Task) → is_table task ≡ false → open_task_of (state_of_name name old.names.entries) ≡ Some task → IsPartFinished (turn_of task) old.volume device → StopsCommand config (C.Finish name reading) old device
   stops-finish device task d there part =
       let a = actor_of (state_of_name name old.names.entries) task there in
       if_told _ (λ s is. stops-finish-at device task a.0 s d a.1
       (told_at (λ v. PartAsked old.events v (state_of device) old.volume.faults device.faults (asked_in (turn_of task) old.events a.0 v)) (state_of old.volume) s is (part old.events a.0)))
 
   -- the whole was asked
-  finished-part : (device : Device) (task : Task) (f : Finished) (out_before out : List ℕ) → IsFinished (turn_of task) old.volume device out_before out f → IsPartFinished (turn_of task) old.volume device
+  finished-part : (device : VolumeView) (task : Task) (f : Finished) (out_before out : List ℕ) → IsFinished (turn_of task) old.volume device out_before out f → IsPartFinished (turn_of task) old.volume device
   finished-part device task f out_before out fin = λ n actor. if_told _ (λ s is.
       part-all config actor reading task name n f.events old.volume.faults device.faults s (state_of device) out_before out f.outcome _
       (told_at (λ v. HasAsked n f.events v (state_of device) old.volume.faults device.faults name out_before out f.outcome (asked_in (turn_of task) n actor v)) (state_of old.volume) s is (fin n actor)))
@@ -191,7 +191,7 @@ module _ {X : Type 0} (config : Configuration) (old : Stage X) (name : List ℕ)
   asks-table : (new : Stage X) (q : TableQuery) (f : Finished) (out_before out1 out : List ℕ) → open_task_of (state_of_name name old.names.entries) ≡ Some (T.Table q) → new.events ≡ old.events + f.events → new.names.entries ≡ with_name name (state_after f.outcome) old.names.entries → out ≡ out1 ++ end_line name f.outcome → asked_table q new out_before out1 f → DoesCommand config (C.Finish name reading) old new out_before out
   asks-table new q f out_before out1 out there c n o h =
       let a = actor_of (state_of_name name old.names.entries) (T.Table q) there in
-      if_told _ (λ s is. asks-table-at new q a.0 f out_before out1 out s a.1 (ap state_of h.device ∙ is) (omega (arith, ap (λ (d : Device). d.faults) h.device)) c n o h)
+      if_told _ (λ s is. asks-table-at new q a.0 f out_before out1 out s a.1 (ap state_of h.device ∙ is) (omega (arith, ap (λ (d : VolumeView). d.faults) h.device)) c n o h)
 
   -- ---- either
 
@@ -202,8 +202,8 @@ module _ {X : Type 0} (config : Configuration) (old : Stage X) (name : List ℕ)
   does-task new (T.Table q) f out_before out1 out there c n o h = asks-table new q f out_before out1 out there c n o h
   does-task new task f out_before out1 out there c n o h = does-finish new task f out_before out1 out refl h.1 there c n o h.0
 
-  pub stops-task : (device : Device) (task : Task) → open_task_of (state_of_name name old.names.entries) ≡ Some task → IsTaskStopped (turn_of task) old.volume device → StopsCommand config (C.Finish name reading) old device
-  stops-task device (T.Table q) there part = stops-before device (C.Finish name reading) (ap state_of part) (omega (arith, ap (λ (d : Device). d.faults) part))
+  pub stops-task : (device : VolumeView) (task : Task) → open_task_of (state_of_name name old.names.entries) ≡ Some task → IsTaskStopped (turn_of task) old.volume device → StopsCommand config (C.Finish name reading) old device
+  stops-task device (T.Table q) there part = stops-before device (C.Finish name reading) (ap state_of part) (omega (arith, ap (λ (d : VolumeView). d.faults) part))
   stops-task device task there part = stops-finish device task refl there part
 
   -- where all was asked, the first queries were
@@ -215,9 +215,9 @@ module _ {X : Type 0} (config : Configuration) (old : Stage X) (name : List ℕ)
   refused_at (Some (S.Open task actor)) others s e = absurd cc
   refused_at _ others s e = refl
 
-  refuses-finish-at : (device : Device) (s : State) → open_task_of (state_of_name name old.names.entries) ≡ None → state_of device ≡ Some s → ((failed : List ℕ) → does (C.Finish name reading) s failed ≡ None) × (state_of device ≡ Some s)
+  refuses-finish-at : (device : VolumeView) (s : State) → open_task_of (state_of_name name old.names.entries) ≡ None → state_of device ≡ Some s → ((failed : List ℕ) → does (C.Finish name reading) s failed ≡ None) × (state_of device ≡ Some s)
   unfolding effect_of_command
   refuses-finish-at device s e is = (λ failed. refused_at (state_of_name name old.names.entries) failed s e, is)
 
-  pub refuses-finish : (device : Device) → open_task_of (state_of_name name old.names.entries) ≡ None → state_of device ≡ state_of old.volume → RefusesCommand config (C.Finish name reading) old device
+  pub refuses-finish : (device : VolumeView) → open_task_of (state_of_name name old.names.entries) ≡ None → state_of device ≡ state_of old.volume → RefusesCommand config (C.Finish name reading) old device
   refuses-finish device e same = if_told _ (λ s is. refuses-finish-at device s e (same ∙ is))

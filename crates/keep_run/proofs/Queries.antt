@@ -85,7 +85,7 @@ module _ (config : Configuration) (actor reading : ℕ) (task : Task) (name : Li
   pub ask-more : (turns n made total before mid now : ℕ) (s : State) (between state : Option State) (answers : List DeviceAnswer) (nx : Next) (d : ℕ) (q : DeviceQuery) (answer : DeviceAnswer) (o : Outcome) (out_before out_mid out : List ℕ) → nx ≡ asks d q → (r : IsReply (line_of_query q) s between answer before mid) → (r.fails ≡ true → may_fault q ≡ true) → mid ≤ now → out_mid ≡ out_before ++ event_line name d answer → HasAsked (n + 1) made (asked r.fails s (line_of_query q s)).state state mid now name out_mid out o (rest_of turns n s answers q r.fails) → total ≡ suc made → HasAsked n total s state before now name out_before out o (asks_from (suc turns) n s answers nx)
   ask-more turns n made total before mid now s between state answers nx d q answer o out_before out_mid out e r may le printed h count =
       let reply = asked r.fails s (line_of_query q s) in
-      let f = AreFaults-reply n before mid r.fails r.later r.rose in
+      let f = AreFaults-reply n before mid r.fails r.never_falls r.rose in
       let upto : (n + 1) + length h.asked.made ≡ n + suc (length h.asked.made) = shifted n (length h.asked.made) in
       let g : AreFaults (n + 1) (n + suc (length h.asked.made)) mid now h.failed = subst (λ v. AreFaults (n + 1) v mid now h.failed) upto h.faults in
       let whole : HasAsked n total s state before now name out_before out o (asks_from (suc turns) n s answers nx) = record {
@@ -113,7 +113,7 @@ module _ (config : Configuration) (actor reading : ℕ) (task : Task) (name : Li
   pub part-more : (turns n before mid now : ℕ) (s : State) (between state : Option State) (answers : List DeviceAnswer) (nx : Next) (d : ℕ) (q : DeviceQuery) (answer : DeviceAnswer) → nx ≡ asks d q → (r : IsReply (line_of_query q) s between answer before mid) → (r.fails ≡ true → may_fault q ≡ true) → mid ≤ now → PartAsked (n + 1) (asked r.fails s (line_of_query q s)).state state mid now (rest_of turns n s answers q r.fails) → PartAsked n s state before now (asks_from (suc turns) n s answers nx)
   part-more turns n before mid now s between state answers nx d q answer e r may le p =
       let reply = asked r.fails s (line_of_query q s) in
-      let f = AreFaults-reply n before mid r.fails r.later r.rose in
+      let f = AreFaults-reply n before mid r.fails r.never_falls r.rose in
       let upto : (n + 1) + p.made ≡ n + suc p.made = omega arith in
       let g : AreFaults (n + 1) (n + suc p.made) mid now p.failed = subst (λ v. AreFaults (n + 1) v mid now p.failed) upto p.faults in
       record {

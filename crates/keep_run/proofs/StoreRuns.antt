@@ -10,7 +10,7 @@ use Rattle.keep_event.specs.Device.{State, initial}
 use Rattle.keep_event.specs.declared.device.DeviceRules.{DeviceRules}
 use Rattle.keep_event.specs.declared.names.Name.{Name}
 use Rattle.keep_event.specs.declared.names.Stored.{Stored}
-use Rattle.keep_volume.specs.Calls.{Device, state_of, IsOpened}
+use Rattle.keep_volume.specs.Calls.{VolumeView, state_of, IsOpened}
 use Rattle.keep_history.specs.Faults.{AreFaults}
 use Rattle.keep_history.specs.Run.{End, is_empty, run_opened, run_lines, Passes, at_start}
 use Rattle.keep_history.specs.Ended.{HowEnded}
@@ -47,12 +47,12 @@ told_keeps (Some es) (Some round) start e =
     some_same : {x y : State} → Some x ≡ Some y → x ≡ y
     some_same e = cc
 
-pub opened_state : (held : Option (List (Name × Stored))) (noted : Option ℕ) (rules : DeviceRules) (d : Device) (start : State) → told_state held noted ≡ Some start → IsOpened held noted rules d → state_of d ≡ Some start
+pub opened_state : (held : Option (List (Name × Stored))) (noted : Option ℕ) (rules : DeviceRules) (d : VolumeView) (start : State) → told_state held noted ≡ Some start → IsOpened held noted rules d → state_of d ≡ Some start
 opened_state None noted rules d start e o = absurd cc
 opened_state (Some es) None rules d start e o = absurd cc
 opened_state (Some es) (Some round) rules d start e o = rw (o.held, o.round, o.trash, o.pull) e
 
-left_of : (d : Device) (held : Option (List (Name × Stored))) (left : State) → d.held ≡ held → state_of d ≡ Some left → (held ≡ Some left.held) × (d.round ≡ left.round)
+left_of : (d : VolumeView) (held : Option (List (Name × Stored))) (left : State) → d.held ≡ held → state_of d ≡ Some left → (held ≡ Some left.held) × (d.round ≡ left.round)
 left_of d None left h e = absurd (let none : state_of d ≡ None = rw h refl in none_some (sym none ∙ e))
   where
     none_some : None ≡ Some left → ⊥
@@ -65,7 +65,7 @@ left_of d (Some es) left h e =
     round_same e = cc
 
 -- a store that was given back keeps what the device had
-pub given_back : (d : Device) (held : Option (List (Name × Stored))) (noted : Option ℕ) (left : State) → state_of d ≡ Some left → held ≡ d.held → IfSome noted (λ n. n ≡ d.round) → Keeps held noted left
+pub given_back : (d : VolumeView) (held : Option (List (Name × Stored))) (noted : Option ℕ) (left : State) → state_of d ≡ Some left → held ≡ d.held → IfSome noted (λ n. n ≡ d.round) → Keeps held noted left
 given_back d held noted left e h n =
     let l = left_of d d.held left refl e in
     record { held_is = h ∙ l.0; round_is = by_note noted n }
@@ -158,7 +158,7 @@ module _ (config : Configuration) (taken : ℕ) (bytes : List ℕ) (start : Stat
   earlier : (count first before now : ℕ) (failed : List ℕ) → first ≤ before → AreFaults 0 count before now failed → AreFaults 0 count first now failed
   earlier count first before now failed le f = record { among = f.among; few = λ small. let q = f.few small in omega arith }
 
-  pub ran-lines : (number : ℕ) (status : Status) (d : Device) (scene : Option Scene) (held : Option (List (Name × Stored))) (noted : Option ℕ) (first before : ℕ) (out : Option (List ℕ)) → number ≡ 1 → is_empty start ≡ true → held ≡ d.held → IfSome noted (λ n. n ≡ d.round) → first ≤ before → Ended config (beginning taken number bytes start t) status (record { scene = scene; state = state_of d; before = before; now = d.faults }) out → StoreRan config (beginning taken 1 bytes start t) status held noted first d.faults out
+  pub ran-lines : (number : ℕ) (status : Status) (d : VolumeView) (scene : Option Scene) (held : Option (List (Name × Stored))) (noted : Option ℕ) (first before : ℕ) (out : Option (List ℕ)) → number ≡ 1 → is_empty start ≡ true → held ≡ d.held → IfSome noted (λ n. n ≡ d.round) → first ≤ before → Ended config (beginning taken number bytes start t) status (record { scene = scene; state = state_of d; before = before; now = d.faults }) out → StoreRan config (beginning taken 1 bytes start t) status held noted first d.faults out
   ran-lines number status d scene held noted first before out one e h n le ended =
       let l = how-left status _ _ (state_of d) out ended.how in
       record {

@@ -12,7 +12,7 @@ use Rattle.keep_history.specs.declared.task.Task.{Task}
 use Rattle.keep_history.specs.declared.task.Task.TheVariants as T
 use Rattle.keep_event.specs.declared.device.DeviceQuery.{DeviceQuery}
 use Rattle.keep_event.specs.declared.device.DeviceQuery.TheVariants as Q
-use Rattle.keep_volume.specs.Calls.{Device, state_of}
+use Rattle.keep_volume.specs.Calls.{VolumeView, state_of}
 use Rattle.keep_history.specs.Effects.{Made, Asking, Asked, asked, event_lines, finished, most_turns}
 use Rattle.keep_history.specs.Faults.{AgreeFrom, AreFaults}
 use Rattle.keep_history.specs.Printed.{table_event_line}
@@ -24,7 +24,7 @@ use Rattle.keep_run.specs.declared.asking.Finished.{Finished}
 pub record IsReply (line : State → Reply) (s : State) (state : Option State) (answer : DeviceAnswer) (before now : ℕ) : Type 0 where
   pub fails : Bool
   pub rose : fails ≡ true → Rose before now
-  pub later : before ≤ now
+  pub never_falls : before ≤ now
   pub answer_is : answer ≡ (asked fails s (line s)).answer
   pub state_is : state ≡ Some (asked fails s (line s)).state
 
@@ -119,12 +119,12 @@ abbrev pub asked_in : Turn → ℕ → ℕ → State → List ℕ → Asked
 asked_in t n actor s failed = finished most_turns (asking t.config actor t.reading t.task failed) n s [] (next t.config t.task [])
 
 -- a task was asked until it ended: whatever its events are numbered from, and whoever asks
-abbrev pub IsFinished : Turn → Device → Device → List ℕ → List ℕ → Finished → Type 0
+abbrev pub IsFinished : Turn → VolumeView → VolumeView → List ℕ → List ℕ → Finished → Type 0
 IsFinished t old new out_before out f = (n : ℕ) → (actor : ℕ) → IfSome (state_of old) (λ s.
     HasAsked n f.events s (state_of new) old.faults new.faults t.name out_before out f.outcome (asked_in t n actor s))
 
 -- the first of its queries were asked
-abbrev pub IsPartFinished : Turn → Device → Device → Type 0
+abbrev pub IsPartFinished : Turn → VolumeView → VolumeView → Type 0
 IsPartFinished t old new = (n : ℕ) → (actor : ℕ) → IfSome (state_of old) (λ s.
     PartAsked n s (state_of new) old.faults new.faults (asked_in t n actor s))
 
@@ -145,10 +145,10 @@ done_by_kind t task old new out_before out f = IsFinished t old.device new.devic
 abbrev pub IsTaskDone : Turn → Cluster → Cluster → List ℕ → List ℕ → Finished → Type 0
 IsTaskDone t old new out_before out f = done_by_kind t t.task old new out_before out f
 
-abbrev pub stopped_by_kind : Turn → Task → Device → Device → Type 0
+abbrev pub stopped_by_kind : Turn → Task → VolumeView → VolumeView → Type 0
 stopped_by_kind t (T.Table q) old new = new ≡ old
 stopped_by_kind t task old new = IsPartFinished t old new
 
 -- the first of a task's queries to the device were asked
-abbrev pub IsTaskStopped : Turn → Device → Device → Type 0
+abbrev pub IsTaskStopped : Turn → VolumeView → VolumeView → Type 0
 IsTaskStopped t old new = stopped_by_kind t t.task old new

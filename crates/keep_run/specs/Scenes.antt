@@ -5,17 +5,17 @@ use Rattle.keep_event.specs.Device.{State}
 use Rattle.keep_event.specs.Table as tables
 use Rattle.keep_event.specs.Requests.{rules_of as table_rules_of}
 use Rattle.keep_table.specs.Contents.{Contents}
-use Rattle.keep_volume.specs.Calls.{Device, state_of}
+use Rattle.keep_volume.specs.Calls.{VolumeView, state_of}
 use Rattle.keep_history.specs.Effects.{Scene, rules_of}
 use Rattle.keep_run.specs.Askable.{AreAskable}
 use Rattle.keep_run.specs.declared.stage.Stage.{Stage}
 
 -- what the queries of a task can change: the device and the table
 pub record Cluster : Type 0 where
-  pub device : Device
+  pub device : VolumeView
   pub table : Contents
 
-abbrev pub cluster : Device → Contents → Cluster
+abbrev pub cluster : VolumeView → Contents → Cluster
 cluster device table = record { device = device; table = table }
 
 -- the scene of a stage whose device is in this state

@@ -197,7 +197,7 @@ fn finish_put<S: Store>(
     ensures done { IfOk result (λ f. IsFinished (turn config.now reading name.now (Task.Put token.now id block.now)) volume.old volume.new out.old.items out.new.items f) }
     ensures stopped { OnErr result (IsPartFinished (turn config.now reading name.now (Task.Put token.now id block.now)) volume.old volume.new) }
     ensures two_events { IfOk result (λ f. f.events ≤ 2) }
-    ensures later { volume.old.faults ≤ volume.new.faults }
+    ensures never_falls { volume.old.faults ≤ volume.new.faults }
     ensures rules { volume.new.rules ≡ volume.old.rules }
 {
     if !is_writable(config) {
@@ -234,7 +234,7 @@ fn finish_single<S: Store>(
     ensures done { IfOk result (λ f. IsFinished (turn config.now reading name.now task.now) volume.old volume.new out.old.items out.new.items f) }
     ensures stopped { OnErr result (IsPartFinished (turn config.now reading name.now task.now) volume.old volume.new) }
     ensures two_events { IfOk result (λ f. f.events ≤ 2) }
-    ensures later { volume.old.faults ≤ volume.new.faults }
+    ensures never_falls { volume.old.faults ≤ volume.new.faults }
     ensures rules { volume.new.rules ≡ volume.old.rules }
 {
     let answer = volume.step(reading, query)?;
@@ -259,7 +259,7 @@ fn finish_other<S: Store>(
     ensures done { IfOk result (λ f. IsFinished (turn config.now reading name.now task.now) volume.old volume.new out.old.items out.new.items f) }
     ensures stopped { OnErr result (IsPartFinished (turn config.now reading name.now task.now) volume.old volume.new) }
     ensures two_events { IfOk result (λ f. f.events ≤ 2) }
-    ensures later { volume.old.faults ≤ volume.new.faults }
+    ensures never_falls { volume.old.faults ≤ volume.new.faults }
     ensures rules { volume.new.rules ≡ volume.old.rules }
 {
     let Some(query) = single_query(config, task) else {
@@ -286,7 +286,7 @@ pub(crate) fn finish<S: Store>(
     ensures done { IfOk result (λ f. IsFinished (turn config.now reading name.now task.now) volume.old volume.new out.old.items out.new.items f) }
     ensures stopped { OnErr result (IsPartFinished (turn config.now reading name.now task.now) volume.old volume.new) }
     ensures two_events { IfOk result (λ f. f.events ≤ 2) }
-    ensures later { volume.old.faults ≤ volume.new.faults }
+    ensures never_falls { volume.old.faults ≤ volume.new.faults }
     ensures rules { volume.new.rules ≡ volume.old.rules }
 {
     match task {

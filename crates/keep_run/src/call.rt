@@ -56,7 +56,7 @@ fn run_store<R: Source, W: Sink, S: Store>(
     sink: &mut W,
     store: S,
 ) -> (S, Status)
-    requires fine { lines_failed lines.old ≡ None }
+    requires unfailed { lines_failed lines.old ≡ None }
     requires first { lines_number lines.old ≡ 1 }
     requires one { length config.now.devices ≡ 1 }
     ensures told { AllTold (lines_left lines.old) (told_state (S.held store) (S.noted store)) (W.taken sink.old) (λ bytes start t.
@@ -100,10 +100,10 @@ fn run_stores<R: Source, W: Sink, S: Store>(
     sink: &mut W,
     stores: &mut Vec<S>,
 ) -> Status
-    requires fine { lines_failed lines.old ≡ None }
+    requires unfailed { lines_failed lines.old ≡ None }
     requires first { lines_number lines.old ≡ 1 }
     requires one { length config.now.devices ≡ 1 }
-    requires some { 0 < vec_len stores.old }
+    requires has_store { 0 < vec_len stores.old }
     ensures told { AllTold (lines_left lines.old) (first_state S.held S.noted stores.old.items) (W.taken sink.old) (λ bytes start t.
         FirstRan S.held S.noted S.faults config.now (beginning (lines_taken lines.old) 1 bytes start t) stores.old.items stores.new.items result (W.taken sink.new)) }
     ensures len { vec_len stores.new ≡ vec_len stores.old }
@@ -127,7 +127,7 @@ fn run_stores<R: Source, W: Sink, S: Store>(
 fn misfit(config: &Config, stores: usize) -> Option<Field>
     ensures field { result ≡ misfit stores config.now }
     ensures one { result ≡ None → length config.now.devices ≡ 1 }
-    ensures some { result ≡ None → 0 < stores }
+    ensures has_store { result ≡ None → 0 < stores }
 {
     let devices = config.devices.len();
     if stores < devices || devices > 1 {
@@ -145,7 +145,7 @@ fn misfit(config: &Config, stores: usize) -> Option<Field>
 fn read_config(alloc: Global, text: &[u8], stores: usize) -> Result<Config, Status>
     ensures ok { IfOk result (λ c. config_for stores text.now ≡ Ok c) }
     ensures one { IfOk result (λ c. length c.devices ≡ 1) }
-    ensures some { IfOk result (λ c. 0 < stores) }
+    ensures has_store { IfOk result (λ c. 0 < stores) }
     ensures err { IfErr result (λ status. IsConfigRefusal status (config_for stores text.now)) }
 {
     let config = match Config::read(alloc, text) {
@@ -166,7 +166,7 @@ fn run_input<R: Source, W: Sink, S: Store>(
     sink: &mut W,
     stores: &mut Vec<S>,
 ) -> Status
-    requires fine { lines_failed lines.old ≡ None }
+    requires unfailed { lines_failed lines.old ≡ None }
     requires taken { lines_taken lines.old ≡ 0 }
     requires number { lines_number lines.old ≡ 0 }
     ensures told { AllTold (lines_left lines.old) (first_state S.held S.noted stores.old.items) (W.taken sink.old) (λ bytes start t.

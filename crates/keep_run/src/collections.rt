@@ -147,7 +147,7 @@ pub(crate) fn ask_task<S: Store>(
     ensures done { IfOk result (λ f. IsTaskDone (turn config.now reading name.now task.now) (cluster volume.old table.old) (cluster volume.new table.new) out.old.items out.new.items f) }
     ensures stopped { OnErr result (IsTaskStopped (turn config.now reading name.now task.now) volume.old volume.new) }
     ensures two_events { IfOk result (λ f. f.events ≤ 2) }
-    ensures later { volume.old.faults ≤ volume.new.faults }
+    ensures never_falls { volume.old.faults ≤ volume.new.faults }
     ensures rules { volume.new.rules ≡ volume.old.rules }
     ensures table_rules { table.new.rules ≡ table.old.rules }
     ensures table_rises { IfOk result (λ _. RisesByOne table.old.state table.new.state) }

@@ -30,8 +30,8 @@ fn run_line<W: Sink, S: Store>(
     ensures of_line { IsOfLine result }
     ensures sound { IfOk result (λ _. IsStageOf config.now stage.new) }
     ensures grows { IfOk result (λ _. GrowsByLine stage.old stage.new) }
-    ensures store_later { stage.old.volume.faults ≤ stage.new.volume.faults }
-    ensures sink_later { W.faults sink.old ≤ W.faults sink.new }
+    ensures store_never_falls { stage.old.volume.faults ≤ stage.new.volume.faults }
+    ensures sink_never_falls { W.faults sink.old ≤ W.faults sink.new }
     ensures cause { result ≡ Err Status.WriteFault → Rose (W.faults sink.old) (W.faults sink.new) }
 {
     if line.text.as_slice().is_empty() {
@@ -82,15 +82,15 @@ pub(crate) fn run_lines<R: Source, W: Sink, S: Store>(
     stage: &mut Stage<S>,
     sink: &mut W,
 ) -> Status
-    requires fine { lines_failed lines.old ≡ None }
+    requires unfailed { lines_failed lines.old ≡ None }
     requires sound { IsStageOf config.now stage.old }
     requires fresh { IsFresh stage.old }
     ensures told { AllTold (lines_left lines.old) (state_of stage.old.volume) (W.taken sink.old) (λ bytes s t.
         Ended config.now (beginning (lines_taken lines.old) (lines_number lines.old) bytes s t) result (passage stage.old stage.new) (W.taken sink.new)) }
     ensures same_reference { lines_name lines.new ≡ lines_name lines.old }
-    ensures source_later { R.faults (lines_source lines.old) ≤ R.faults (lines_source lines.new) }
-    ensures store_later { stage.old.volume.faults ≤ stage.new.volume.faults }
-    ensures sink_later { W.faults sink.old ≤ W.faults sink.new }
+    ensures source_never_falls { R.faults (lines_source lines.old) ≤ R.faults (lines_source lines.new) }
+    ensures store_never_falls { stage.old.volume.faults ≤ stage.new.volume.faults }
+    ensures sink_never_falls { W.faults sink.old ≤ W.faults sink.new }
     ensures words { result ≢ Status.BadWords }
     ensures store { (device : ℕ) → result ≢ Status.StoreFault device }
     ensures config { (field : TheField) → result ≢ Status.BadConfig field }

@@ -88,7 +88,7 @@ fn open_task<S: Store>(
     ensures stopped { OnErr result (StopsCommand config.now (Command.Open name reading opening) stage.old stage.new.volume) }
     ensures sound { IfOk result (λ _. IsStageOf config.now stage.new) }
     ensures grows { IfOk result (λ _. GrowsByLine stage.old stage.new) }
-    ensures later { stage.old.volume.faults ≤ stage.new.volume.faults }
+    ensures never_falls { stage.old.volume.faults ≤ stage.new.volume.faults }
 {
     let actor = stage.names.len() as u32;
     let task = match opened(alloc, config, opening, reading)? {
@@ -120,7 +120,7 @@ fn finish_task<S: Store>(
     ensures stopped { OnErr result (StopsCommand config.now (Command.Finish name reading) stage.old stage.new.volume) }
     ensures sound { IfOk result (λ _. IsStageOf config.now stage.new) }
     ensures grows { IfOk result (λ _. GrowsByLine stage.old stage.new) }
-    ensures later { stage.old.volume.faults ≤ stage.new.volume.faults }
+    ensures never_falls { stage.old.volume.faults ≤ stage.new.volume.faults }
 {
     let state = set_name(&mut stage.names, name.duplicate(alloc)?, TaskState::Ended)?;
     let Some(task) = open_task_of(state) else {
@@ -160,7 +160,7 @@ pub(crate) fn do_command<S: Store>(
     ensures stopped { OnErr result (StopsCommand config.now command stage.old stage.new.volume) }
     ensures sound { IfOk result (λ _. IsStageOf config.now stage.new) }
     ensures grows { IfOk result (λ _. GrowsByLine stage.old stage.new) }
-    ensures later { stage.old.volume.faults ≤ stage.new.volume.faults }
+    ensures never_falls { stage.old.volume.faults ≤ stage.new.volume.faults }
 {
     match command {
         Command::Open {

@@ -41,7 +41,7 @@ impl MemoryStore {
 
     // Counts a call, and says whether it is to fail.
     fn is_failing(&mut self) -> bool
-        ensures same { (self.new.names ≡ self.old.names) × (self.new.round ≡ self.old.round) }
+        ensures unchanged { (self.new.names ≡ self.old.names) × (self.new.round ≡ self.old.round) }
         ensures cause { IsCounted self.old.faults self.new.faults result }
         ensures planned { FollowsPlan (⟦<MemoryStore as Store>⟧.fault_plan self.old) (⟦<MemoryStore as Store>⟧.fault_plan self.new) self.old.faults self.new.faults result }
     {

@@ -38,7 +38,7 @@ pub trait Store {
     /// Returns what is stored under a name. None: nothing is.
     fn get(&mut self, name: &Name) -> Result<Option<Stored>, StoreError>
         ensures value { IfOk result (λ o. IfSome (held self.old) (λ es. o ≡ find name.now es)) }
-        ensures same { Stays (held self.old) (held self.new) }
+        ensures unchanged { Stays (held self.old) (held self.new) }
         ensures note { Stays (noted self.old) (noted self.new) }
         ensures cause { HasStoreCause (faults self.old) (faults self.new) result }
         ensures planned { FollowsPlan (fault_plan self.old) (fault_plan self.new) (faults self.old) (faults self.new) (has_failed result) };
@@ -55,7 +55,7 @@ pub trait Store {
     fn names_from(&mut self, after: Option<Name>, limit: usize) -> Result<Vec<Held>, StoreError>
         ensures value { IfOk result (λ v. IfSome (held self.old) (λ es. v.items ≡ take limit (map held_of (above after es)))) }
         ensures ascending { IfOk result (λ v. AreAscending (map (λ h. h.name) v.items)) }
-        ensures same { Stays (held self.old) (held self.new) }
+        ensures unchanged { Stays (held self.old) (held self.new) }
         ensures note { Stays (noted self.old) (noted self.new) }
         ensures cause { HasStoreCause (faults self.old) (faults self.new) result }
         ensures planned { FollowsPlan (fault_plan self.old) (fault_plan self.new) (faults self.old) (faults self.new) (has_failed result) };
@@ -63,7 +63,7 @@ pub trait Store {
     /// Returns the time and the size of what is stored under a name. None: nothing is.
     fn stat(&mut self, name: &Name) -> Result<Option<Metadata>, Failed>
         ensures value { IfOk result (λ o. IfSome (held self.old) (λ es. o ≡ option_map size_of (find name.now es))) }
-        ensures same { Stays (held self.old) (held self.new) }
+        ensures unchanged { Stays (held self.old) (held self.new) }
         ensures note { Stays (noted self.old) (noted self.new) }
         ensures cause { HasCause (faults self.old) (faults self.new) result }
         ensures planned { FollowsPlan (fault_plan self.old) (fault_plan self.new) (faults self.old) (faults self.new) (is_err result) };
@@ -98,7 +98,7 @@ pub trait Store {
     /// Returns the note.
     fn note(&mut self) -> Result<u64, Failed>
         ensures value { IfOk result (λ n. IfSome (noted self.old) (λ m. n ≡ m)) }
-        ensures same { Stays (held self.old) (held self.new) }
+        ensures unchanged { Stays (held self.old) (held self.new) }
         ensures note { Stays (noted self.old) (noted self.new) }
         ensures cause { HasCause (faults self.old) (faults self.new) result }
         ensures planned { FollowsPlan (fault_plan self.old) (fault_plan self.new) (faults self.old) (faults self.new) (is_err result) };
@@ -107,7 +107,7 @@ pub trait Store {
     fn set_note(&mut self, round: u64) -> Result<(), Failed>
         ensures ok { OnOk result (Becomes (noted self.old) (noted self.new) (λ m. round)) }
         ensures err { OnErr result (Stays (noted self.old) (noted self.new)) }
-        ensures same { Stays (held self.old) (held self.new) }
+        ensures unchanged { Stays (held self.old) (held self.new) }
         ensures cause { HasCause (faults self.old) (faults self.new) result }
         ensures planned { FollowsPlan (fault_plan self.old) (fault_plan self.new) (faults self.old) (faults self.new) (is_err result) };
 }

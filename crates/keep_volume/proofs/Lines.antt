@@ -6,7 +6,7 @@ use Rattle.keep_event.specs.declared.names.Name.{Name}
 use Rattle.keep_event.specs.declared.names.Stored.{Stored}
 use Rattle.keep_event.specs.declared.device.DeviceAnswer.{DeviceAnswer}
 use Rattle.keep_event.specs.declared.device.DeviceAnswer.TheVariants.{StoreFault}
-use Rattle.keep_volume.specs.Calls.{Device, state_with, state_of, IsToldLine, IsLine, HasFault, IsKept, IsExactly, over}
+use Rattle.keep_volume.specs.Calls.{VolumeView, state_with, state_of, IsToldLine, IsLine, HasFault, IsKept, IsExactly, over}
 use Rattle.keep_volume.specs.Steps.{IsItem, without_first}
 use Rattle.keep_spec.specs.declared.memory.NoMemory.{NoMemory}
 
@@ -40,15 +40,15 @@ told-memory : (line : State → Reply) (held held' : Option (List (Name × Store
 told-memory line None held' w w' x e p = tt
 told-memory line (Some es) held' w w' x e p = ap (option_map w') e ∙ ap Some (p es)
 
-module _ (line : State → Reply) (old new : Device) (later : old.faults ≤ new.faults) (rules : new.rules ≡ old.rules) where
+module _ (line : State → Reply) (old new : VolumeView) (later : old.faults ≤ new.faults) (rules : new.rules ≡ old.rules) where
   -- the store made h of what it told, and the line says so
   pub becomes-line : (a : DeviceAnswer) (h : List (Name × Stored) → List (Name × Stored)) → new.held ≡ option_map h old.held
       → IfSome old.held (λ es. line (state_with old es) ≡ record { answer = a; state = state_with new (h es) })
       → (a ≡ StoreFault → ⊥) → IsLine line old new (Ok a)
-  becomes-line a h e p fault = record { told = told-becomes line old.held new.held a h (state_with old) (state_with new) e p; fault = λ e. absurd (fault e); kept = λ e. absurd (fault e); later = later; rules = rules }
+  becomes-line a h e p fault = record { told = told-becomes line old.held new.held a h (state_with old) (state_with new) e p; fault = λ e. absurd (fault e); kept = λ e. absurd (fault e); never_falls = later; rules = rules }
 
 -- the line says so whatever the contents are
-pub exactly : (line : State → Reply) (old new : Device) (a : DeviceAnswer) → ((es : List (Name × Stored)) → line (state_with old es) ≡ record { answer = a; state = state_with new es })
+pub exactly : (line : State → Reply) (old new : VolumeView) (a : DeviceAnswer) → ((es : List (Name × Stored)) → line (state_with old es) ≡ record { answer = a; state = state_with new es })
     → new.held ≡ old.held → new.faults ≡ old.faults → new.rules ≡ old.rules → IsExactly line old new (Ok a)
 exactly line old new a p h f r = record { told = λ es. (ap (λ (r : Reply). Ok r.answer) (sym (p es)), ap (λ (r : Reply). r.state) (sym (p es))); held = h; faults = f; rules = r }
 
@@ -57,17 +57,17 @@ option_map-same None = refl
 option_map-same (Some x) = refl
 
 -- nothing was asked of the store
-pub stays-line : (line : State → Reply) (d : Device) (a : DeviceAnswer) → IfSome d.held (λ es. line (state_with d es) ≡ stays a (state_with d es)) → (a ≡ StoreFault → ⊥) → IsLine line d d (Ok a)
+pub stays-line : (line : State → Reply) (d : VolumeView) (a : DeviceAnswer) → IfSome d.held (λ es. line (state_with d es) ≡ stays a (state_with d es)) → (a ≡ StoreFault → ⊥) → IsLine line d d (Ok a)
 stays-line line d a p fault = becomes-line line d d (omega arith) refl a (λ es. es) (option_map-same d.held) p fault
 
 -- the store made h of what it told, and all else of the device stays
-module _ (line : State → Reply) (old new : Device) (h : List (Name × Stored) → List (Name × Stored)) (is : new ≡ over old h new.faults) (later : old.faults ≤ new.faults) where
+module _ (line : State → Reply) (old new : VolumeView) (h : List (Name × Stored) → List (Name × Stored)) (is : new ≡ over old h new.faults) (later : old.faults ≤ new.faults) where
   state-over : (es : List (Name × Stored)) → state_with new es ≡ state_with old es
   state-over es = ap (λ d. state_with d es) is
 
   pub over-line : (a : DeviceAnswer) → IfSome old.held (λ es. line (state_with old es) ≡ record { answer = a; state = with_held (h es) (state_with old es) })
       → (a ≡ StoreFault → ⊥) → IsLine line old new (Ok a)
-  over-line a p fault = becomes-line line old new later (ap (λ (d : Device). d.rules) is) a h (ap (λ (d : Device). d.held) is)
+  over-line a p fault = becomes-line line old new later (ap (λ (d : VolumeView). d.rules) is) a h (ap (λ (d : VolumeView). d.held) is)
       (told-map old.held (λ es e. e ∙ ap (λ (s : State). record { answer = a; state = s }) (sym (state-over (h es)))) p) fault
 
 -- two calls of the store, of which the first changed nothing
@@ -75,7 +75,7 @@ option_map-twice : {A : Type 0} (h : A → A) (o : Option A) → option_map h (o
 option_map-twice h None = refl
 option_map-twice h (Some x) = refl
 
-pub over-over : (old mid new : Device) (h : List (Name × Stored) → List (Name × Stored)) → mid ≡ over old (λ es. es) mid.faults → new ≡ over mid h new.faults → new ≡ over old h new.faults
+pub over-over : (old mid new : VolumeView) (h : List (Name × Stored) → List (Name × Stored)) → mid ≡ over old (λ es. es) mid.faults → new ≡ over mid h new.faults → new ≡ over old h new.faults
 over-over old mid new h e f = f ∙ ap (λ d. over d h new.faults) e ∙ ap (λ (o : Option (List (Name × Stored))). record { held = o; round = old.round; trash = old.trash; pull = old.pull; rules = old.rules; faults = new.faults }) (option_map-twice h old.held)
 
 -- ---- an item of the trash list
@@ -85,21 +85,21 @@ told-item : (line : State → Reply) (held held' : Option (List (Name × Stored)
 told-item line None held' a h w w' e p = tt
 told-item line (Some es) held' a h w w' e p = (sym (ap (λ (r : Reply). r.answer) p), ap (option_map w') e ∙ ap Some (sym (ap (λ (r : Reply). r.state) p)))
 
-pub item-stays : (line : State → Reply) (d : Device) (a : DeviceAnswer) → IfSome d.held (λ es. line (state_with d es) ≡ stays a (state_with d es)) → (a ≡ StoreFault → ⊥) → IsItem line d d (Ok a)
+pub item-stays : (line : State → Reply) (d : VolumeView) (a : DeviceAnswer) → IfSome d.held (λ es. line (state_with d es) ≡ stays a (state_with d es)) → (a ≡ StoreFault → ⊥) → IsItem line d d (Ok a)
 item-stays line d a p n = (told-item line d.held d.held a (λ es. es) (state_with d) (state_with d) (option_map-same d.held) p, omega arith, refl, refl, n)
 
-pub item-over : (line : State → Reply) (old new : Device) (h : List (Name × Stored) → List (Name × Stored)) → new ≡ over old h new.faults → old.faults ≤ new.faults → (a : DeviceAnswer)
+pub item-over : (line : State → Reply) (old new : VolumeView) (h : List (Name × Stored) → List (Name × Stored)) → new ≡ over old h new.faults → old.faults ≤ new.faults → (a : DeviceAnswer)
     → IfSome old.held (λ es. line (state_with old es) ≡ record { answer = a; state = with_held (h es) (state_with old es) }) → (a ≡ StoreFault → ⊥) → IsItem line old new (Ok a)
 item-over line old new h is later a p n = (
-  told-item line old.held new.held a h (state_with old) (state_with new) (ap (λ (d : Device). d.held) is) (told-map old.held (λ es e. e ∙ ap (λ (s : State). record { answer = a; state = s }) (sym (state-over line old new h is later (h es)))) p),
+  told-item line old.held new.held a h (state_with old) (state_with new) (ap (λ (d : VolumeView). d.held) is) (told-map old.held (λ es e. e ∙ ap (λ (s : State). record { answer = a; state = s }) (sym (state-over line old new h is later (h es)))) p),
   later,
-  ap (λ (d : Device). d.rules) is,
-  ap (λ (d : Device). d.trash) is,
+  ap (λ (d : VolumeView). d.rules) is,
+  ap (λ (d : VolumeView). d.trash) is,
   n,
 )
 
 -- the item is taken
-told-taken : (line item : State → Reply) (old : Device) (mid : Device) (a : DeviceAnswer) (held : Option (List (Name × Stored))) (held' : Option (List (Name × Stored))) → mid.trash ≡ old.trash
+told-taken : (line item : State → Reply) (old : VolumeView) (mid : VolumeView) (a : DeviceAnswer) (held : Option (List (Name × Stored))) (held' : Option (List (Name × Stored))) → mid.trash ≡ old.trash
     → IfSome held (λ es. line (state_with old es) ≡ taken (drop 1 old.trash) (item (state_with old es)))
     → IfSome (option_map (state_with old) held) (λ s. (a ≡ (item s).answer) × (option_map (state_with mid) held' ≡ Some (item s).state))
     → IfSome (option_map (state_with old) held) (λ s. IsToldLine line s (option_map (state_with (without_first mid)) held') (Ok a))
@@ -111,9 +111,9 @@ told-taken line item old mid a (Some es) held' t p q = inl (q.0 ∙ sym (ap (λ 
     step (Some fs) e =
         ap (λ (o : Option State). option_map (with_trash (drop 1 mid.trash)) o) e ∙ ap (λ t. Some (with_trash (drop 1 t) (item (state_with old es)).state)) t ∙ ap Some (sym (ap (λ (r : Reply). r.state) p))
 
-pub taken-line : (line item : State → Reply) (old mid new : Device) (a : DeviceAnswer) → IsItem item old mid (Ok a) → new ≡ without_first mid
+pub taken-line : (line item : State → Reply) (old mid new : VolumeView) (a : DeviceAnswer) → IsItem item old mid (Ok a) → new ≡ without_first mid
     → IfSome old.held (λ es. line (state_with old es) ≡ taken (drop 1 old.trash) (item (state_with old es))) → IsLine line old new (Ok a)
-taken-line line item old mid new a i n p = subst (λ d. IsLine line old d (Ok a)) (sym n) (record { told = told-taken line item old mid a old.held mid.held i.3 p i.0; fault = λ e. absurd (i.4 e); kept = λ e. absurd (i.4 e); later = i.1; rules = i.2 })
+taken-line line item old mid new a i n p = subst (λ d. IsLine line old d (Ok a)) (sym n) (record { told = told-taken line item old mid a old.held mid.held i.3 p i.0; fault = λ e. absurd (i.4 e); kept = λ e. absurd (i.4 e); never_falls = i.1; rules = i.2 })
 
 -- ---- a line that goes on after a call that changed nothing
 told-after-at : (line inner : State → Reply) (s : State) (o : Option State) (result : Result DeviceAnswer NoMemory) → line s ≡ inner s → IsToldLine inner s o result → IsToldLine line s o result
@@ -133,18 +133,18 @@ fault-after : (a b c : ℕ) (result : Result DeviceAnswer NoMemory) → a ≤ b 
 fault-after a b c (Err x) le f = tt
 fault-after a b c (Ok x) le f = λ e. let r : Rose b c = f e in omega (arith, r, le)
 
-kept-after : (old mid new : Device) (result : Result DeviceAnswer NoMemory) → mid ≡ over old (λ es. es) mid.faults → IsKept mid new result → IsKept old new result
+kept-after : (old mid new : VolumeView) (result : Result DeviceAnswer NoMemory) → mid ≡ over old (λ es. es) mid.faults → IsKept mid new result → IsKept old new result
 kept-after old mid new (Err x) is k = over-over old mid new (λ es. es) is k
 kept-after old mid new (Ok x) is k = λ e. over-over old mid new (λ es. es) is (k e)
 
-pub after-line : (line inner : State → Reply) (old mid new : Device) (result : Result DeviceAnswer NoMemory) → mid ≡ over old (λ es. es) mid.faults → old.faults ≤ mid.faults → IsLine inner mid new result
+pub after-line : (line inner : State → Reply) (old mid new : VolumeView) (result : Result DeviceAnswer NoMemory) → mid ≡ over old (λ es. es) mid.faults → old.faults ≤ mid.faults → IsLine inner mid new result
     → IfSome old.held (λ es. line (state_with old es) ≡ inner (state_with old es)) → IsLine line old new result
 after-line line inner old mid new result is later i p = record {
-  told = told-after line inner old.held (state_with old) (state_with mid) (state_of new) result (λ es. ap (λ d. state_with d es) is) p (subst (λ (o : Option (List (Name × Stored))). IfSome (option_map (state_with mid) o) (λ s. IsToldLine inner s (state_of new) result)) (ap (λ (d : Device). d.held) is) i.told);
+  told = told-after line inner old.held (state_with old) (state_with mid) (state_of new) result (λ es. ap (λ d. state_with d es) is) p (subst (λ (o : Option (List (Name × Stored))). IfSome (option_map (state_with mid) o) (λ s. IsToldLine inner s (state_of new) result)) (ap (λ (d : VolumeView). d.held) is) i.told);
   fault = fault-after old.faults mid.faults new.faults result later i.fault;
   kept = kept-after old mid new result is i.kept;
-  later = omega (arith, later, i.later);
-  rules = i.rules ∙ ap (λ (d : Device). d.rules) is;
+  never_falls = omega (arith, later, i.never_falls);
+  rules = i.rules ∙ ap (λ (d : VolumeView). d.rules) is;
 }
 
 pub anyway-at : (line : State → Reply) (s t : State) (a : DeviceAnswer) → line s ≡ record { answer = a; state = t } → IsToldLine line s (Some t) (Ok a)

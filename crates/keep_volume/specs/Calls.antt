@@ -16,7 +16,7 @@ use Rattle.keep_volume.specs.declared.volume.OpenError.TheVariants.{StoreFault, 
 use Rattle.keep_spec.specs.declared.memory.NoMemory as memory
 
 -- what callers see of a device: what its store tells, the kept round, the two lists, the rules, and the store's count of faults
-pub record Device : Type 0 where
+pub record VolumeView : Type 0 where
   pub held : Option (List (Name × Stored))
   pub round : ℕ
   pub trash : List TrashItem
@@ -24,11 +24,11 @@ pub record Device : Type 0 where
   pub rules : DeviceRules
   pub faults : ℕ
 
-abbrev pub state_with : Device → List (Name × Stored) → State
+abbrev pub state_with : VolumeView → List (Name × Stored) → State
 state_with d es = record { held = es; round = d.round; trash = d.trash; pull = d.pull }
 
 -- the state of the device machine, where the store tells
-abbrev pub state_of : Device → Option State
+abbrev pub state_of : VolumeView → Option State
 state_of d = option_map (state_with d) d.held
 
 -- the machine's line, or a fault of the store that changes nothing
@@ -42,23 +42,23 @@ HasFault before now (Err e) = ⊤
 HasFault before now (Ok answer) = answer ≡ answers.StoreFault → Rose before now
 
 -- the device over the store after a call that made h of what is told
-abbrev pub over : Device → (List (Name × Stored) → List (Name × Stored)) → ℕ → Device
+abbrev pub over : VolumeView → (List (Name × Stored) → List (Name × Stored)) → ℕ → VolumeView
 over d h faults = record { held = option_map h d.held; round = d.round; trash = d.trash; pull = d.pull; rules = d.rules; faults = faults }
 
 -- a refusal changes nothing, also where the store doesn't tell
-abbrev pub IsKept : Device → Device → Result DeviceAnswer memory.NoMemory → Type 0
+abbrev pub IsKept : VolumeView → VolumeView → Result DeviceAnswer memory.NoMemory → Type 0
 IsKept old new (Err e) = new ≡ over old (λ es. es) new.faults
 IsKept old new (Ok answer) = answer ≡ answers.StoreFault → new ≡ over old (λ es. es) new.faults
 
-pub record IsLine (line : State → Reply) (old new : Device) (result : Result DeviceAnswer memory.NoMemory) : Type 0 where
+pub record IsLine (line : State → Reply) (old new : VolumeView) (result : Result DeviceAnswer memory.NoMemory) : Type 0 where
   pub told : IfSome (state_of old) (λ s. IsToldLine line s (state_of new) result)
   pub fault : HasFault old.faults new.faults result
   pub kept : IsKept old new result
-  pub later : old.faults ≤ new.faults
+  pub never_falls : old.faults ≤ new.faults
   pub rules : new.rules ≡ old.rules
 
 -- a device that was opened: lists empty, the round is the note
-pub record IsOpened (told : Option (List (Name × Stored))) (noted : Option ℕ) (given : DeviceRules) (d : Device) : Type 0 where
+pub record IsOpened (told : Option (List (Name × Stored))) (noted : Option ℕ) (given : DeviceRules) (d : VolumeView) : Type 0 where
   pub held : d.held ≡ told
   pub round : IfSome noted (λ n. d.round ≡ n)
   pub trash : d.trash ≡ []
@@ -71,45 +71,45 @@ IsGivenBack held noted faults h n f (StoreFault s) = (h s ≡ held) × (n s ≡ 
 IsGivenBack held noted faults h n f (NoMemory s) = (h s ≡ held) × (n s ≡ noted) × (faults ≤ f s)
 
 -- the line exactly, whatever the contents are, told or not, and without the store
-pub record IsExactly (line : State → Reply) (old new : Device) (result : Result DeviceAnswer memory.NoMemory) : Type 0 where
+pub record IsExactly (line : State → Reply) (old new : VolumeView) (result : Result DeviceAnswer memory.NoMemory) : Type 0 where
   pub told : (es : List (Name × Stored)) → (result ≡ Ok (line (state_with old es)).answer) × (state_with new es ≡ (line (state_with old es)).state)
   pub held : new.held ≡ old.held
   pub faults : new.faults ≡ old.faults
   pub rules : new.rules ≡ old.rules
 
 -- a line that doesn't read the contents: the same whatever they are, told or not
-abbrev pub IsLineAnyway : (State → Reply) → Device → Device → Result DeviceAnswer memory.NoMemory → Type 0
-IsLineAnyway line old new result = (es : List (Name × Stored)) → IsToldLine line (state_with old es) (Some (state_with new es)) result
+abbrev pub IsLineUntold : (State → Reply) → VolumeView → VolumeView → Result DeviceAnswer memory.NoMemory → Type 0
+IsLineUntold line old new result = (es : List (Name × Stored)) → IsToldLine line (state_with old es) (Some (state_with new es)) result
 
 -- a device that is read only answers so and stays as it is, told or not, and no other answers so
-pub record HasReadOnly (old new : Device) (result : Result DeviceAnswer memory.NoMemory) : Type 0 where
+pub record HasReadOnly (old new : VolumeView) (result : Result DeviceAnswer memory.NoMemory) : Type 0 where
   pub given : old.rules.read_only ≡ true → (result ≡ Ok answers.ReadOnly) × (new ≡ old)
   pub only : result ≡ Ok answers.ReadOnly → old.rules.read_only ≡ true
 
 -- a device that is read only takes the first item of its trash list and answers so, whatever its store does
-abbrev pub HasReadOnlyItem : Device → Device → Result DeviceAnswer memory.NoMemory → Type 0
+abbrev pub HasReadOnlyItem : VolumeView → VolumeView → Result DeviceAnswer memory.NoMemory → Type 0
 HasReadOnlyItem old new result =
     old.rules.read_only ≡ true → old.trash ≢ []
     → (result ≡ Ok answers.ReadOnly) × (new ≡ record { held = old.held; round = old.round; trash = drop 1 old.trash; pull = old.pull; rules = old.rules; faults = old.faults })
 
 -- a round below the kept one is answered Stale, whatever the store does, and no other
-pub record HasLowerStale (round : ℕ) (old new : Device) (result : Result DeviceAnswer memory.NoMemory) : Type 0 where
+pub record HasLowerStale (round : ℕ) (old new : VolumeView) (result : Result DeviceAnswer memory.NoMemory) : Type 0 where
   pub given : round < old.round → (result ≡ Ok (answers.Stale old.round)) × (new ≡ old)
   pub only : (held : ℕ) → result ≡ Ok (answers.Stale held) → round < old.round
 
 -- a round other than the kept one is answered Stale, told or not, and no other
-pub record HasStale (round : ℕ) (old new : Device) (result : Result DeviceAnswer memory.NoMemory) : Type 0 where
+pub record HasStale (round : ℕ) (old new : VolumeView) (result : Result DeviceAnswer memory.NoMemory) : Type 0 where
   pub given : round ≢ old.round → (result ≡ Ok (answers.Stale old.round)) × (new ≡ old)
   pub only : (held : ℕ) → result ≡ Ok (answers.Stale held) → round ≢ old.round
 
 -- an empty trash list is answered Idle, told or not, and no other
-pub record HasIdle (old new : Device) (result : Result DeviceAnswer memory.NoMemory) : Type 0 where
+pub record HasIdle (old new : VolumeView) (result : Result DeviceAnswer memory.NoMemory) : Type 0 where
   pub given : old.trash ≡ [] → (result ≡ Ok answers.Idle) × (new ≡ old)
   pub only : result ≡ Ok answers.Idle → old.trash ≡ []
 
 -- opening the store again leaves what a restart leaves
-abbrev pub IsReopened : Option (List (Name × Stored)) → Option ℕ → Device → Type 0
-IsReopened told noted d = IfSome noted (λ n. (v : Device) → IsOpened told noted d.rules v → state_of v ≡ option_map (λ s. (restart s).state) (state_of d))
+abbrev pub IsReopened : Option (List (Name × Stored)) → Option ℕ → VolumeView → Type 0
+IsReopened told noted d = IfSome noted (λ n. (v : VolumeView) → IsOpened told noted d.rules v → state_of v ≡ option_map (λ s. (restart s).state) (state_of d))
 
 -- a query for which memory may be wanted: those that read or write bytes, a page, and lists that are copied
 abbrev pub takes_memory : DeviceQuery → Bool
@@ -142,7 +142,7 @@ is_refused queries.EmptyNext = true
 is_refused queries.Restart = false
 
 -- Stale comes exactly by the round for a clear and a page
-abbrev pub HasStaleRound : DeviceQuery → Device → Device → Result DeviceAnswer memory.NoMemory → Type 0
+abbrev pub HasStaleRound : DeviceQuery → VolumeView → VolumeView → Result DeviceAnswer memory.NoMemory → Type 0
 HasStaleRound (queries.Clear round) old new result = HasLowerStale round old new result
 HasStaleRound (queries.Page round prefix) old new result = HasStale round old new result
 HasStaleRound query old new result = ⊤

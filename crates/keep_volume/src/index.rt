@@ -136,7 +136,7 @@ impl Index {
 
     /// Makes room for a name. After NoMemory the names are as they were.
     pub(crate) fn reserve_for(&mut self, name: &Name) -> Result<(), NoMemory>
-        ensures same { self.new.entries ≡ self.old.entries }
+        ensures unchanged { self.new.entries ≡ self.old.entries }
         ensures ok { OnOk result (0 < room_for name.now self.new.rooms) }
     {
         self.names.reserve_for(name)
@@ -157,7 +157,7 @@ impl Index {
     /// The first trashed copy whose deadline is below the reading. It goes on from where the last search stopped.
     pub(crate) fn first_due(&mut self, reading: u64) -> Option<Name>
         ensures value { result ≡ option_map (λ e. e.0) (list_find (due reading) self.old.entries) }
-        ensures same { self.new.entries ≡ self.old.entries }
+        ensures unchanged { self.new.entries ≡ self.old.entries }
     {
         if reading > self.passed.earliest {
             self.passed = Passed {

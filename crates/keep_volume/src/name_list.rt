@@ -104,7 +104,7 @@ impl NameList {
 
     /// Makes room for one more name. After NoMemory the names are as they were.
     pub(crate) fn reserve_one(&mut self) -> Result<(), NoMemory>
-        ensures same { self.new.entries ≡ self.old.entries }
+        ensures unchanged { self.new.entries ≡ self.old.entries }
         ensures ok { OnOk result (0 < self.new.room) }
     {
         if self.items.reserve(1).is_err() {

@@ -88,7 +88,7 @@ impl NameMap {
 
     // Makes one bucket for each byte, unless they are there.
     fn make_buckets(&mut self) -> Result<(), NoMemory>
-        ensures same { self.new.entries ≡ self.old.entries }
+        ensures unchanged { self.new.entries ≡ self.old.entries }
         ensures ok { OnOk result (length self.new.rooms ≡ 256) }
     {
         if self.buckets.is_empty() {
@@ -99,7 +99,7 @@ impl NameMap {
 
     /// Makes room for the name. After NoMemory the names are as they were.
     pub(crate) fn reserve_for(&mut self, name: &Name) -> Result<(), NoMemory>
-        ensures same { self.new.entries ≡ self.old.entries }
+        ensures unchanged { self.new.entries ≡ self.old.entries }
         ensures ok { OnOk result (0 < room_for name.now self.new.rooms) }
     {
         self.make_buckets()?;

@@ -250,7 +250,7 @@ fn each_call_answers_and_changes_its_store_once_at_most(rt: HostRuntime) -> Resu
 }
 
 // The store of a device that was not opened for a fault.
-fn given_back(opened: Result<Volume<MemoryStore>, OpenError<MemoryStore>>) -> Option<MemoryStore> {
+fn store_of(opened: Result<Volume<MemoryStore>, OpenError<MemoryStore>>) -> Option<MemoryStore> {
     match opened {
         Err(OpenError::StoreFault { store }) => Some(store),
         Err(OpenError::NoMemory { store: _ }) => None,
@@ -262,9 +262,7 @@ fn given_back(opened: Result<Volume<MemoryStore>, OpenError<MemoryStore>>) -> Op
 fn a_store_that_fails_at_opening_comes_back(rt: HostRuntime) -> Result<(), Fail> {
     let alloc = rt.alloc();
     for n in [1, 2] {
-        let store = given_back(Volume::open(alloc, memory(alloc, &[n])?, RULES)).expect(
-            &rt, "fails",
-        );
+        let store = store_of(Volume::open(alloc, memory(alloc, &[n])?, RULES)).expect(&rt, "fails");
         let mut device = Volume::open(alloc, store, RULES).ok().expect(&rt, "opens");
         assert!(rt; device.is_empty(), "at call {n}");
         let _ = answer_to(alloc, &mut device, T, Ask::Accept(0, "foo", T))?;

@@ -6,7 +6,7 @@ ghost use Rattle.keep_event.specs.Device as machine;
 ghost use Rattle.keep_event.specs.Store as store;
 ghost use Rattle.keep_event.specs.Store.{find, size_of, sized};
 ghost use Rattle.std.specs.List.{find as list_find, last_or, filter};
-ghost use Rattle.keep_volume.specs.Calls.{IsLine, IsLineAnyway, IsExactly, HasReadOnly, HasReadOnlyItem, HasLowerStale, HasStale, HasStaleRound, HasIdle, IsReopened, state_of, Device, over, IsOpened, IsGivenBack, is_refused, takes_memory};
+ghost use Rattle.keep_volume.specs.Calls.{IsLine, IsLineUntold, IsExactly, HasReadOnly, HasReadOnlyItem, HasLowerStale, HasStale, HasStaleRound, HasIdle, IsReopened, state_of, VolumeView, over, IsOpened, IsGivenBack, is_refused, takes_memory};
 ghost use Rattle.keep_volume.specs.Steps.{IsStoreCall, IsItem, without_first, without_lists};
 ghost use Rattle.keep_store.specs.Causes.{HasStoreCause};
 
@@ -47,10 +47,10 @@ pub struct Volume<S: Store> {
 
 impl<S: Store> Model for Volume<S> {
     ghost use Rattle.std.specs.Prelude.{◌≡◌, ◌≤◌, length, drop, IfSome};
-    ghost use Rattle.keep_volume.specs.Calls.{Device};
+    ghost use Rattle.keep_volume.specs.Calls.{VolumeView};
     ghost use Rattle.keep_volume.specs.Index.{Remembers};
 
-    ghost Value = { Device };
+    ghost Value = { VolumeView };
 
     ghost view = { λ v. record { held = S.held v.store; round = v.round; trash = drop v.trash_done v.trash.items; pull = v.pull.items; rules = v.rules; faults = S.faults v.store } };
 
@@ -79,8 +79,8 @@ impl<S: Store> Volume<S> {
     /// Opens a device over its store: both lists are empty, and the round is the store's note. It makes two calls of the store, `note` and then `names_from`. On error the store comes back as it was.
     pub fn open(alloc: Global, store: S, rules: DeviceRules) -> Result<Volume<S>, OpenError<S>>
         ensures opened { IfOk result (λ v. IsOpened (S.held store) (S.noted store) rules v) }
-        ensures later { IfOk result (λ v. S.faults store ≤ v.faults) }
-        ensures given_back { IfErr result (IsGivenBack (S.held store) (S.noted store) (S.faults store) S.held S.noted S.faults) }
+        ensures never_falls { IfOk result (λ v. S.faults store ≤ v.faults) }
+        ensures store_returned { IfErr result (IsGivenBack (S.held store) (S.noted store) (S.faults store) S.held S.noted S.faults) }
     {
         let mut store = store;
         let Ok(round) = store.note() else {
@@ -128,7 +128,7 @@ impl<S: Store> Volume<S> {
 
     /// Whether the device is new: no replica, no trashed copy, both lists empty, and the round 0.
     pub fn is_empty(&self) -> bool
-        ensures told { IfSome (state_of self.now) (λ s. IsTrue result ↔ (s ≡ machine.initial)) }
+        ensures initial { IfSome (state_of self.now) (λ s. IsTrue result ↔ (s ≡ machine.initial)) }
         ensures lists { IsTrue result → (self.now.round ≡ 0) × (self.now.trash ≡ []) × (self.now.pull ≡ []) }
     {
         if self.round != 0 || !self.index.is_empty() {
@@ -286,7 +286,7 @@ impl<S: Store> Volume<S> {
     /// Keeps the round and empties both lists. Below the kept round the answer is Stale, whatever the store does. It takes no memory.
     pub fn clear(&mut self, _reading: u64, round: u64) -> Result<DeviceAnswer, NoMemory>
         ensures line { IsLine (machine.clear round) self.old self.new result }
-        ensures whatever_is_told { IsLineAnyway (machine.clear round) self.old self.new result }
+        ensures whatever_is_told { IsLineUntold (machine.clear round) self.old self.new result }
         ensures stale { HasLowerStale round self.old self.new result }
         ensures takes_no_memory { IsOk result }
     {
@@ -463,7 +463,7 @@ impl<S: Store> Volume<S> {
     // What the store has under a name.
     fn stored(&mut self, name: &Name) -> Result<Option<Stored>, StoreError>
         ensures value { IfOk result (λ o. IfSome self.old.held (λ es. o ≡ find name.now es)) }
-        ensures same { self.new ≡ over self.old (λ es. es) self.new.faults }
+        ensures unchanged { self.new ≡ over self.old (λ es. es) self.new.faults }
         ensures cause { HasStoreCause self.old.faults self.new.faults result }
     {
         self.store.get(name)
@@ -479,14 +479,14 @@ impl<S: Store> Volume<S> {
     // The first trashed copy whose deadline has passed.
     fn first_due(&mut self, reading: u64) -> Option<Name>
         ensures value { IfSome self.old.held (λ es. result ≡ option_map (λ e. e.0) (list_find (machine.is_due reading) es)) }
-        ensures same { self.new ≡ self.old }
+        ensures unchanged { self.new ≡ self.old }
     {
         self.index.first_due(reading)
     }
 
     // The trashed copy of a digest with the greatest deadline.
     fn last_copy(&self, digest: &Digest) -> Option<(Name, Metadata)>
-        ensures told { IfSome self.now.held (λ es. result ≡ option_map sized (machine.last_copy digest.now es)) }
+        ensures last_copy { IfSome self.now.held (λ es. result ≡ option_map sized (machine.last_copy digest.now es)) }
         ensures digest { IfSome result (λ e. e.0.digest ≡ digest.now) }
     {
         self.index.last_copy(digest)

@@ -93,10 +93,10 @@ pub(crate) fn read_more<R: Source>(
     chunk: &mut [u8],
     most: usize,
 ) -> Result<bool, WireError>
-    requires some { 0 < most }
+    requires not_empty { 0 < most }
     requires room { 0 < length chunk.old }
     ensures read { IsReadMore most pending.old.items (R.left source.old) pending.new.items (R.left source.new) result }
-    ensures later { R.faults source.old ≤ R.faults source.new }
+    ensures never_falls { R.faults source.old ≤ R.faults source.new }
     ensures cause { IsErrOf result WireError.ReadFault → Rose (R.faults source.old) (R.faults source.new) }
 {
     let want = chunk.len().min(most);
@@ -122,7 +122,7 @@ pub(crate) fn fill<R: Source, M: Message>(
     requires { vec_len pending.old ≤ HEAD_MAX }
     ensures found { IsFound M.grammar M.make pending.new.items (R.left source.new) result }
     ensures bytes { SameBytes result pending.old.items (R.left source.old) pending.new.items (R.left source.new) }
-    ensures later { R.faults source.old ≤ R.faults source.new }
+    ensures never_falls { R.faults source.old ≤ R.faults source.new }
     ensures cause { IsErrOf result WireError.ReadFault → Rose (R.faults source.old) (R.faults source.new) }
 {
     let mut looks = Looks::after(pending.len());
@@ -152,7 +152,7 @@ pub(crate) fn fill_body<R: Source>(
     requires { vec_len body.old ≤ size }
     ensures filled { IsFilled size body.new.items (R.left source.new) result }
     ensures bytes { SameBytes result body.old.items (R.left source.old) body.new.items (R.left source.new) }
-    ensures later { R.faults source.old ≤ R.faults source.new }
+    ensures never_falls { R.faults source.old ≤ R.faults source.new }
     ensures cause { IsErrOf result WireError.ReadFault → Rose (R.faults source.old) (R.faults source.new) }
 {
     if body.len() == size {

@@ -5,8 +5,8 @@ ghost use Rattle.keep_spec.specs.Causes.{Rose};
 ghost use Rattle.keep_wire.specs.Looks.{IsFound, SameBytes, IsBegunNext, IsBodyNext};
 ghost use Rattle.keep_wire.specs.Messages.{IsNext};
 
-use crate::head::{Begun, Message};
 use crate::filling::{fill, fill_body, look};
+use crate::head::{Begun, Message};
 use crate::{BODY_MAX, Source, WireError};
 use keep_base::Bytes;
 use std::alloc::{AllocError, Global};
@@ -87,12 +87,12 @@ impl<'a, R: Source> Reader<'a, R> {
     // The next message, or the error that was returned before.
     pub(crate) fn next<M: Message>(&mut self) -> Result<Option<M>, WireError>
         ensures same_reference { reader_name self.new ≡ reader_name self.old }
-        ensures told { reader_failed self.old ≡ None → IsNext M.grammar M.make (reader_left self.old) result (reader_left self.new) }
+        ensures next_message { reader_failed self.old ≡ None → IsNext M.grammar M.make (reader_left self.old) result (reader_left self.new) }
         ensures no_error { OnOk result ((reader_failed self.old ≡ None) × (reader_failed self.new ≡ None)) }
         ensures failed { IfErr result (λ e. reader_failed self.new ≡ Some e) }
         ensures same_error { IfSome (reader_failed self.old) (λ e. result ≡ Err e) }
         ensures unread { IfSome (reader_failed self.old) (λ e. reader_source self.new ≡ reader_source self.old) }
-        ensures later { R.faults (reader_source self.old) ≤ R.faults (reader_source self.new) }
+        ensures never_falls { R.faults (reader_source self.old) ≤ R.faults (reader_source self.new) }
         ensures cause { result ≡ Err WireError.ReadFault → reader_failed self.old ≡ None → Rose (R.faults (reader_source self.old)) (R.faults (reader_source self.new)) }
     {
         if let Some(error) = self.failed {
@@ -108,9 +108,9 @@ impl<'a, R: Source> Reader<'a, R> {
     #[tactic(auto, using(crate::proofs::Next::next_from_begun_end))]
     fn advance<M: Message>(&mut self) -> Result<Option<M>, WireError>
         ensures same_reference { reader_name self.new ≡ reader_name self.old }
-        ensures told { IsNext M.grammar M.make (reader_left self.old) result (reader_left self.new) }
+        ensures next_message { IsNext M.grammar M.make (reader_left self.old) result (reader_left self.new) }
         ensures failed { reader_failed self.new ≡ reader_failed self.old }
-        ensures later { R.faults (reader_source self.old) ≤ R.faults (reader_source self.new) }
+        ensures never_falls { R.faults (reader_source self.old) ≤ R.faults (reader_source self.new) }
         ensures cause { result ≡ Err WireError.ReadFault → Rose (R.faults (reader_source self.old)) (R.faults (reader_source self.new)) }
     {
         let begun = match begin::<R, M>(
@@ -147,7 +147,7 @@ fn find<R: Source, M: Message>(
     ensures within { start.new ≤ vec_len pending.new }
     ensures found { IsFound M.grammar M.make (drop start.new pending.new.items) (R.left source.new) result }
     ensures bytes { SameBytes result (drop start.old pending.old.items) (R.left source.old) (drop start.new pending.new.items) (R.left source.new) }
-    ensures later { R.faults source.old ≤ R.faults source.new }
+    ensures never_falls { R.faults source.old ≤ R.faults source.new }
     ensures cause { IsErrOf result WireError.ReadFault → Rose (R.faults source.old) (R.faults source.new) }
 {
     match look::<M>(alloc, rest_of(pending, *start)) {
@@ -170,9 +170,9 @@ fn begin<R: Source, M: Message>(
 ) -> Result<Option<Begun<M>>, WireError>
     requires { start.old ≤ vec_len pending.old }
     ensures within { start.new ≤ vec_len pending.new }
-    ensures told { IsBegunNext M.grammar M.make (prepend_known (drop start.old pending.old.items) (R.left source.old)) result (prepend_known (drop start.new pending.new.items) (R.left source.new)) }
+    ensures next_message { IsBegunNext M.grammar M.make (prepend_known (drop start.old pending.old.items) (R.left source.old)) result (prepend_known (drop start.new pending.new.items) (R.left source.new)) }
     ensures short { IfOk result (λ o. IfSome o (λ b. b.body ≤ BODY_MAX)) }
-    ensures later { R.faults source.old ≤ R.faults source.new }
+    ensures never_falls { R.faults source.old ≤ R.faults source.new }
     ensures cause { IsErrOf result WireError.ReadFault → Rose (R.faults source.old) (R.faults source.new) }
 {
     match find::<R, M>(alloc, source, pending, start) {
@@ -195,8 +195,8 @@ fn take_body<R: Source>(
 ) -> Result<Bytes, WireError>
     requires { start.old ≤ length pending.now }
     ensures within { start.new ≤ length pending.now }
-    ensures told { IsBodyNext size (prepend_known (drop start.old pending.now) (R.left source.old)) result (prepend_known (drop start.new pending.now) (R.left source.new)) }
-    ensures later { R.faults source.old ≤ R.faults source.new }
+    ensures next_message { IsBodyNext size (prepend_known (drop start.old pending.now) (R.left source.old)) result (prepend_known (drop start.new pending.now) (R.left source.new)) }
+    ensures never_falls { R.faults source.old ≤ R.faults source.new }
     ensures cause { IsErrOf result WireError.ReadFault → Rose (R.faults source.old) (R.faults source.new) }
 {
     let there = size.min(pending.len() - *start);

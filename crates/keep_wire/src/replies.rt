@@ -40,12 +40,12 @@ impl<'a, R: Source> Replies<'a, R> {
     /// The next response, or `None` at the end of the input. An error is returned by every later call too. `ReadFault` comes only where the source's count of faults rose in the call that first returned it.
     pub fn next(&mut self) -> Result<Option<Response>, WireError>
         ensures same_reference { replies_name self.new ≡ replies_name self.old }
-        ensures told { replies_failed self.old ≡ None → IsNext (replies_left self.old) result (replies_left self.new) }
+        ensures next_message { replies_failed self.old ≡ None → IsNext (replies_left self.old) result (replies_left self.new) }
         ensures no_error { OnOk result ((replies_failed self.old ≡ None) × (replies_failed self.new ≡ None)) }
         ensures failed { IfErr result (λ e. replies_failed self.new ≡ Some e) }
         ensures same_error { IfSome (replies_failed self.old) (λ e. result ≡ Err e) }
         ensures unread { IfSome (replies_failed self.old) (λ e. replies_source self.new ≡ replies_source self.old) }
-        ensures later { R.faults (replies_source self.old) ≤ R.faults (replies_source self.new) }
+        ensures never_falls { R.faults (replies_source self.old) ≤ R.faults (replies_source self.new) }
         ensures cause { result ≡ Err WireError.ReadFault → replies_failed self.old ≡ None → Rose (R.faults (replies_source self.old)) (R.faults (replies_source self.new)) }
     {
         self.reader.next::<Response>()

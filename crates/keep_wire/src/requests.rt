@@ -40,12 +40,12 @@ impl<'a, R: Source> Requests<'a, R> {
     /// The next request, or `None` at the end of the input. After a request that closes, it reads on as after any other: the caller stops. An error is returned by every later call too. `ReadFault` comes only where the source's count of faults rose in the call that first returned it.
     pub fn next(&mut self) -> Result<Option<Request>, WireError>
         ensures same_reference { requests_name self.new ≡ requests_name self.old }
-        ensures told { requests_failed self.old ≡ None → IsNext (requests_left self.old) result (requests_left self.new) }
+        ensures next_message { requests_failed self.old ≡ None → IsNext (requests_left self.old) result (requests_left self.new) }
         ensures no_error { OnOk result ((requests_failed self.old ≡ None) × (requests_failed self.new ≡ None)) }
         ensures failed { IfErr result (λ e. requests_failed self.new ≡ Some e) }
         ensures same_error { IfSome (requests_failed self.old) (λ e. result ≡ Err e) }
         ensures unread { IfSome (requests_failed self.old) (λ e. requests_source self.new ≡ requests_source self.old) }
-        ensures later { R.faults (requests_source self.old) ≤ R.faults (requests_source self.new) }
+        ensures never_falls { R.faults (requests_source self.old) ≤ R.faults (requests_source self.new) }
         ensures cause { result ≡ Err WireError.ReadFault → requests_failed self.old ≡ None → Rose (R.faults (requests_source self.old)) (R.faults (requests_source self.new)) }
     {
         self.reader.next::<Request>()

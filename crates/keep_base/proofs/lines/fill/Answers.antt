@@ -6,7 +6,7 @@ use Rattle.keep_base.specs.Ends.{IsPlain}
 use Rattle.keep_base.proofs.lines.fill.Goals as goal
 
 pub loop-text-init : goal.loop-text-init
-loop-text-init g c = record { scanned = omega arith; plain = λ k p q. absurd (omega arith); bytes = Keeps-refl _; later = omega arith }
+loop-text-init g c = record { scanned = omega arith; plain = λ k p q. absurd (omega arith); bytes = Keeps-refl _; never_falls = omega arith }
 
 pub returns-in-Err-clause-bytes : goal.returns-in-Err-clause-bytes
 returns-in-Err-clause-bytes g c = Keeps-after_read _ _ _ _ c.loop-text.invariant.bytes c.in-Err.ensures.bytes
@@ -28,5 +28,5 @@ loop-text-preserved g c =
       scanned = grind (arith, c.extend_from_slice.ensures.len);
       plain = rw grown (IsPlain-longer old _ _ (omega arith) (IsPlain-join old _ _ c.loop-text.invariant.plain rest));
       bytes = rw grown (Keeps-after_bytes _ _ _ _ _ c.loop-text.invariant.bytes c.in-Ok.ensures.bytes.0);
-      later = omega (arith, c.in-Ok.ensures.cause.later);
+      never_falls = omega (arith, c.in-Ok.ensures.cause.never_falls);
     }

@@ -8,7 +8,7 @@ invariant-loop-text g l = record {
   scanned : l.scanned ≤ vec_len l.pending;
   plain : IsPlain l.pending.items 0 l.scanned;
   bytes : Keeps (prepend_known l.fn.pending.items (g.R.Source.left l.fn.source)) (prepend_known l.pending.items (g.R.Source.left l.source));
-  later : g.R.Source.faults l.fn.source ≤ g.R.Source.faults l.source;
+  never_falls : g.R.Source.faults l.fn.source ≤ g.R.Source.faults l.source;
 }
 
 abbrev pub decreases-loop-text : goal.decreases-loop-text

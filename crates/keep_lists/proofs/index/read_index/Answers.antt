@@ -27,7 +27,7 @@ returns-in-Ok c =
     let es = c.loop-end.entries.items in
     let at = length c.args.text.now - length rest in
     let first : position (λ b. b == 10) rest ≡ Some 0 = sym c.in-Some.ensures ∙ ap Some c.if-end-eq0.true in
-    let left : c.behind_first-behind.result.now ≡ drop 1 rest = c.behind_first-behind.ensures ∙ ap (drop 1) (c.split_at.ensures.back ∙ ap (λ k. drop k rest) c.if-end-eq0.true) in
+    let left : c.after_first-following.result.now ≡ drop 1 rest = c.after_first-following.ensures ∙ ap (drop 1) (c.split_at.ensures.back ∙ ap (λ k. drop k rest) c.if-end-eq0.true) in
     sym c.loop-end.invariant.said
     ∙ ap (with_entries es) (empty-first rest at (last_entry es) first ∙ ap (λ v. ended_at (at + 1) (cut v)) (sym left) ∙ c.in-Ok.ensures)
     ∙ ap Ok (append-nil es)
@@ -38,8 +38,8 @@ returns-in-Err c =
     let es = c.loop-end.entries.items in
     let at = length c.args.text.now - length rest in
     let first : position (λ b. b == 10) rest ≡ Some 0 = sym c.in-Some.ensures ∙ ap Some c.if-end-eq0.true in
-    let left : c.behind_first-behind.result.now ≡ drop 1 rest = c.behind_first-behind.ensures ∙ ap (drop 1) (c.split_at.ensures.back ∙ ap (λ k. drop k rest) c.if-end-eq0.true) in
-    err-read (ended_at (at + 1) (cut c.behind_first-behind.result.now)) (index_of c.args.text.now) c.in-Err.error
+    let left : c.after_first-following.result.now ≡ drop 1 rest = c.after_first-following.ensures ∙ ap (drop 1) (c.split_at.ensures.back ∙ ap (λ k. drop k rest) c.if-end-eq0.true) in
+    err-read (ended_at (at + 1) (cut c.after_first-following.result.now)) (index_of c.args.text.now) c.in-Err.error
     (λ f q. sym c.loop-end.invariant.said ∙ ap (with_entries es) (empty-first rest at (last_entry es) first ∙ ap (λ v. ended_at (at + 1) (cut v)) (sym left) ∙ q))
     c.in-Err.ensures
 
@@ -67,12 +67,12 @@ loop-end-preserved c =
     let ok : is_ok c.push.result ≡ true = c.is_err.ensures.negation ∙ ap not c.if-is_err.false in
     let pushed : c.push.new.self.items ≡ es ++ y ∷ [] = c.push.ensures.items ∙ ap (λ b. if b then es ++ y ∷ [] else es) ok in
     let next : n + 1 ≡ suc n = omega arith in
-    let left : c.behind_first-behind.result.now ≡ drop (suc n) rest = c.behind_first-behind.ensures ∙ ap (drop 1) c.split_at.ensures.back ∙ drop-drop 1 n rest ∙ ap (λ k. drop k rest) next in
+    let left : c.after_first-following.result.now ≡ drop (suc n) rest = c.after_first-following.ensures ∙ ap (drop 1) c.split_at.ensures.back ∙ drop-drop 1 n rest ∙ ap (λ k. drop k rest) next in
     let within = c.loop-end.invariant.within in
     record {
       within = omega (arith, within, ap length left, length-drop (suc n) rest);
       said =
-          ap (λ v. with_entries v (result_from (length text - length c.behind_first-behind.result.now) (last_entry v) (cut c.behind_first-behind.result.now))) pushed
+          ap (λ v. with_entries v (result_from (length text - length c.after_first-following.result.now) (last_entry v) (cut c.after_first-following.result.now))) pushed
           ∙ ap (λ v. with_entries (es ++ y ∷ []) (result_from (length text - length v) (last_entry (es ++ y ∷ [])) (cut v))) left
           ∙ turn text rest es n y within (sym c.in-Some.ensures) c.if-end-eq0.false is c.loop-end.invariant.said;
     }

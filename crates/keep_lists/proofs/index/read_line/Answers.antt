@@ -9,7 +9,7 @@ pub returns-in-Some : goal.returns-in-Some
 returns-in-Some c =
     let line = c.args.line.now in
     let n = c.in-Some.space in
-    let last = c.behind_first.ensures ∙ ap (drop 1) c.split_at.ensures.back ∙ drop-drop 1 n line in
+    let last = c.after_first.ensures ∙ ap (drop 1) c.split_at.ensures.back ∙ drop-drop 1 n line in
     c.entry_of.ensures
     ∙ ap (λ (v : List ℕ). option_and_then (entry_with v) (bare_locator c.split_at.result.0.now)) last
     ∙ ap (λ (v : List ℕ). option_and_then (entry_with (drop (n + 1) line)) (bare_locator v)) c.split_at.ensures.front

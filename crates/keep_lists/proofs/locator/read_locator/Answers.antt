@@ -17,7 +17,7 @@ pub returns : goal.returns
 returns c =
     let text = c.args.text.now in
     let plus : slice_index text 32 ≡ 43 = sym (ap (λ (v : List ℕ). get_or v 0 0) c.split_at.ensures.back ∙ get_or-drop 32 text 0 0) ∙ c.if-rest-ne43.false in
-    let last = c.behind_first.ensures ∙ ap (drop 1) c.split_at.ensures.back ∙ drop-drop 1 32 text in
+    let last = c.after_first.ensures ∙ ap (drop 1) c.split_at.ensures.back ∙ drop-drop 1 32 text in
     c.locator_of.ensures
     ∙ ap (λ o. both o c.read_number.result) (c.read.ensures ∙ ap digest_of c.split_at.ensures.front)
     ∙ ap (both (digest_of (take 32 text))) (c.read_number.ensures ∙ ap number_at last)

@@ -11,15 +11,15 @@ use Rattle.keep_normal.proofs.block.parts_in.Goals as goal
 abbrev no_block : Block
 no_block = record { start = 0; end = 0 }
 
-pub find_block-index-requires-clause-some : goal.find_block-index-requires-clause-some
-find_block-index-requires-clause-some c =
+pub find_block-index-requires-clause-not_empty : goal.find_block-index-requires-clause-not_empty
+find_block-index-requires-clause-not_empty c =
     let long = ap length c.requires.placed ∙ length-placed 0 c.args.locators.now in
-    omega (arith, long, c.requires.some)
+    omega (arith, long, c.requires.not_empty)
 
 pub find_block-index-requires-clause-first : goal.find_block-index-requires-clause-first
 find_block-index-requires-clause-first c = λ d.
     let long = ap length c.requires.placed ∙ length-placed 0 c.args.locators.now in
-    let zero = ap (λ (b : Block). b.start) (block_at c.args.blocks.now c.args.locators.now 0 d c.requires.placed (omega (arith, long, c.requires.some))).1 in
+    let zero = ap (λ (b : Block). b.start) (block_at c.args.blocks.now c.args.locators.now 0 d c.requires.placed (omega (arith, long, c.requires.not_empty))).1 in
     omega (arith, zero)
 
 pub loop-index-init : goal.loop-index-init

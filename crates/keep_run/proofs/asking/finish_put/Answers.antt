@@ -19,7 +19,7 @@ pub returns-in_err-first-clause-stopped : goal.returns-in_err-first-clause-stopp
 returns-in_err-first-clause-stopped g c =
     let task = T.Put c.args.token.now c.args.id c.args.block.now in
     on_err {P = IsPartFinished (turn c.args.config.now c.args.reading c.args.name.now task) c.args.volume.now c.compare_touch.new.self} _ (λ n actor. if_told _ (λ s is.
-    part-none c.args.config.now actor c.args.reading task c.args.name.now n _ _ s _ _ (refused_same _ _ _ _ c.in_err-first.ensures.line ∙ is) c.in_err-first.ensures.line.later))
+    part-none c.args.config.now actor c.args.reading task c.args.name.now n _ _ s _ _ (refused_same _ _ _ _ c.in_err-first.ensures.line ∙ is) c.in_err-first.ensures.line.never_falls))
 
 pub returns-in_err-push_event_line-clause-stopped : goal.returns-in_err-push_event_line-clause-stopped
 returns-in_err-push_event_line-clause-stopped g c =
@@ -60,7 +60,7 @@ returns-in_err-second-clause-stopped g c =
     on_err {P = IsPartFinished (turn config c.args.reading c.args.name.now task) c.args.volume.now c.write.new.self} _ (λ n actor. if_told _ (λ s is.
     let r = replies _ _ _ c.in_ok-first.first s is (rw c.requires.rules at c.in_ok-first.ensures.line) in
     part-more config actor c.args.reading task c.args.name.now 127 n _ _ _ s _ _ [] _ 0 (Q.CompareTouch c.args.block.now (Some c.args.id)) c.in_ok-first.first (put-compares config c.args.id c.args.token.now c.args.block.now here) r (λ _. refl) (omega arith)
-    (part-none config actor c.args.reading task c.args.name.now (n + 1) _ _ _ _ _ (refused_same _ _ _ _ c.in_err-second.ensures.line ∙ r.state_is) c.in_err-second.ensures.line.later)))
+    (part-none config actor c.args.reading task c.args.name.now (n + 1) _ _ _ _ _ (refused_same _ _ _ _ c.in_err-second.ensures.line ∙ r.state_is) c.in_err-second.ensures.line.never_falls)))
 
 pub returns-in_err-push_event_line-2-clause-stopped : goal.returns-in_err-push_event_line-2-clause-stopped
 returns-in_err-push_event_line-2-clause-stopped g c =

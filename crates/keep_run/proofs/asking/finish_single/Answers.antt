@@ -9,7 +9,7 @@ use Rattle.keep_run.proofs.asking.finish_single.Goals as goal
 pub returns-in_err-answer-clause-stopped : goal.returns-in_err-answer-clause-stopped
 returns-in_err-answer-clause-stopped g c =
     on_err {P = IsPartFinished (turn c.args.config.now c.args.reading c.args.name.now c.args.task.now) c.args.volume.now c.step.new.self} _ (λ n actor. if_told _ (λ s is.
-    part-none c.args.config.now actor c.args.reading c.args.task.now c.args.name.now n _ _ s _ _ (refused_same _ _ _ _ c.in_err-answer.ensures.line ∙ is) c.in_err-answer.ensures.line.later))
+    part-none c.args.config.now actor c.args.reading c.args.task.now c.args.name.now n _ _ s _ _ (refused_same _ _ _ _ c.in_err-answer.ensures.line ∙ is) c.in_err-answer.ensures.line.never_falls))
 
 pub returns-in_err-push_event_line-clause-stopped : goal.returns-in_err-push_event_line-clause-stopped
 returns-in_err-push_event_line-clause-stopped g c =

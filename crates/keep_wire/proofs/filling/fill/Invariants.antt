@@ -6,7 +6,7 @@ abbrev pub invariant-loop-pending : goal.invariant-loop-pending
 invariant-loop-pending g l = record {
   short : vec_len l.pending ≤ 65536;
   bytes : Keeps (prepend_known l.fn.pending.items (g.R.Source.left l.fn.source)) (prepend_known l.pending.items (g.R.Source.left l.source));
-  later : g.R.Source.faults l.fn.source ≤ g.R.Source.faults l.source;
+  never_falls : g.R.Source.faults l.fn.source ≤ g.R.Source.faults l.source;
 }
 
 abbrev pub decreases-loop-pending : goal.decreases-loop-pending

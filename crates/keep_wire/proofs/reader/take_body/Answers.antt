@@ -4,8 +4,8 @@ use Rattle.std.specs.Io.KnownBytes.{Keeps, prepend_known}
 use Rattle.keep_wire.proofs.Body.{body-given}
 use Rattle.keep_wire.proofs.reader.take_body.Goals as goal
 
-pub returns-in-Ok-fill_body-clause-told : goal.returns-in-Ok-fill_body-clause-told
-returns-in-Ok-fill_body-clause-told g c =
+pub returns-in-Ok-fill_body-clause-next_message : goal.returns-in-Ok-fill_body-clause-next_message
+returns-in-Ok-fill_body-clause-next_message g c =
     let p = drop c.args.start.now c.args.pending.now in
     let there = c.min-there.result in
     let first : c.in-Ok.body.items ≡ take there p = c.in-Ok.ensures ∙ c.part_of.ensures in

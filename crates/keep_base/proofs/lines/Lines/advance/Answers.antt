@@ -4,11 +4,11 @@ use Rattle.std.proofs.lemmas.List.{drop-drop}
 use Rattle.keep_base.proofs.NextLine.{next_given, next_stopped}
 use Rattle.keep_base.proofs.lines.Lines.advance.Goals as goal
 
-pub returns-in-Err-clause-told : goal.returns-in-Err-clause-told
-returns-in-Err-clause-told g c = rw c.error_of.ensures (next_stopped _ _ _ _ _ _ _ _ c.in-Err.stop c.args.self.now.in_range c.in-Err.ensures.bytes c.in-Err.ensures.found)
+pub returns-in-Err-clause-next_line : goal.returns-in-Err-clause-next_line
+returns-in-Err-clause-next_line g c = rw c.error_of.ensures (next_stopped _ _ _ _ _ _ _ _ c.in-Err.stop c.args.self.now.in_range c.in-Err.ensures.bytes c.in-Err.ensures.found)
 
-pub returns-clause-told : goal.returns-clause-told
-returns-clause-told g c =
+pub returns-clause-next_line : goal.returns-clause-next_line
+returns-clause-next_line g c =
     let found = rw c.in-Ok-Some.field-0-is at c.in-Ok-Some.ensures.found in
     let read = c.find.new.pending.items in
     let start = c.find.new.start in

@@ -8,15 +8,15 @@ invariant_of-self c =
     let b = c.bucket_of.result in
     let l = c.index_mut-bucket.result.now in
     let lt : b < length bs = search rules in
-    same-buckets c.args.name.now b l bs c.self.invariant c.bucket_of.ensures.value (read-at bs bs b l refl lt c.index_mut-bucket.ensures.value) c.reserve_one.new.self c.reserve_one.ensures.same
+    same-buckets c.args.name.now b l bs c.self.invariant c.bucket_of.ensures.value (read-at bs bs b l refl lt c.index_mut-bucket.ensures.value) c.reserve_one.new.self c.reserve_one.ensures.unchanged
 
-pub returns-clause-same : goal.returns-clause-same
-returns-clause-same c =
+pub returns-clause-unchanged : goal.returns-clause-unchanged
+returns-clause-unchanged c =
     let bs = c.self.inside.buckets.items in
     let b = c.bucket_of.result in
     let l = c.index_mut-bucket.result.now in
     let lt : b < length bs = search rules in
-    same-bucket c.args.name.now b l bs c.self.invariant c.bucket_of.ensures.value (read-at bs bs b l refl lt c.index_mut-bucket.ensures.value) c.reserve_one.new.self c.reserve_one.ensures.same ∙ search rules
+    same-bucket c.args.name.now b l bs c.self.invariant c.bucket_of.ensures.value (read-at bs bs b l refl lt c.index_mut-bucket.ensures.value) c.reserve_one.new.self c.reserve_one.ensures.unchanged ∙ search rules
 
 pub returns-clause-ok : goal.returns-clause-ok
 returns-clause-ok c =

@@ -14,13 +14,13 @@ returns-then-self-clause-line g c =
 pub returns-in-Ok-None-clause-line : goal.returns-in-Ok-None-clause-line
 returns-in-Ok-None-clause-line g c =
     let d = c.args.self.now in
-    over-line _ d c.stored.new.self (λ es. es) c.stored.ensures.same c.stored.ensures.cause.later Absent
+    over-line _ d c.stored.new.self (λ es. es) c.stored.ensures.unchanged c.stored.ensures.cause.never_falls Absent
     (told-map d.held (λ es k. compare-absent d.rules c.args.block.now c.args.reading (state_with d es) (search rules) (search rules)) c.in-Ok-None.ensures.value) (λ e. cc e)
 
 pub returns-then-ne-clause-line : goal.returns-then-ne-clause-line
 returns-then-ne-clause-line g c =
     let d = c.args.self.now in
-    over-line _ d c.stored.new.self (λ es. es) c.stored.ensures.same c.stored.ensures.cause.later c.other_bytes.result
+    over-line _ d c.stored.new.self (λ es. es) c.stored.ensures.unchanged c.stored.ensures.cause.never_falls c.other_bytes.result
     (told-map d.held (λ es k. compare-other d.rules c.args.block.now c.args.reading (state_with d es) (search rules) c.in-Ok-Some.stored (search rules) (search rules) ∙ ap (λ v. stays v (state_with d es)) (search rules)) c.in-Ok-Some.ensures.value) (λ e. absurd (other-not-fault _ _ (sym c.other_bytes.ensures ∙ e)))
 
 pub returns-in-Ok-clause-line : goal.returns-in-Ok-clause-line
@@ -29,6 +29,6 @@ returns-in-Ok-clause-line g c =
     let m = c.renewed_time-mtime.result in
     let n = c.replica-name.result in
     let h = touch_at n m in
-    over-line _ d c.renew.new.self h (over-over d c.stored.new.self c.renew.new.self h c.stored.ensures.same c.in-Ok.ensures.0) (omega (arith, c.stored.ensures.cause.later, c.in-Ok.ensures.1)) (Touched m)
+    over-line _ d c.renew.new.self h (over-over d c.stored.new.self c.renew.new.self h c.stored.ensures.unchanged c.in-Ok.ensures.0) (omega (arith, c.stored.ensures.cause.never_falls, c.in-Ok.ensures.1)) (Touched m)
     (told-map d.held (λ es k. compare-same d.rules c.args.block.now c.args.reading (state_with d es) c.in-Ok-Some.stored n m (search rules) (search rules) c.renewed_time-mtime.ensures (search rules) (search rules)) c.in-Ok-Some.ensures.value)
     (λ e. cc e)

@@ -21,7 +21,7 @@ returns-in-Some-clause-line g c =
 pub returns-in_default-last_copy-clause-line : goal.returns-in_default-last_copy-clause-line
 returns-in_default-last_copy-clause-line g c =
     let d = c.args.self.now in
-    stays-line _ d NoTrash (told-both d.held (λ es k l. untrash-none d.rules c.args.digest.now c.args.reading (state_with d es) (search rules) (none-there _ (search rules)) (search rules)) c.known.ensures c.last_copy.ensures.told) (λ e. cc e)
+    stays-line _ d NoTrash (told-both d.held (λ es k l. untrash-none d.rules c.args.digest.now c.args.reading (state_with d es) (search rules) (none-there _ (search rules)) (search rules)) c.known.ensures c.last_copy.ensures.last_copy) (λ e. cc e)
 
 pub returns-in-Ok-clause-line : goal.returns-in-Ok-clause-line
 returns-in-Ok-clause-line g c =
@@ -32,5 +32,5 @@ returns-in-Ok-clause-line g c =
     over-line _ d c.rename.new.self (λ es. store.rename from to m es (find from es)) c.in-Ok.ensures.0 c.in-Ok.ensures.1 (Back m)
     (told-both d.held (λ es k l. untrash-back d.rules c.args.digest.now c.args.reading (state_with d es) (search rules) (none-there _ (search rules)) (from, c.in-Some-last_copy.sized) (sym c.in-Some-last_copy.is ∙ l)
     ∙ ap (λ t. record { answer = Back (max c.in-Some-last_copy.sized.mtime c.args.reading); state = with_held (store.rename from t (max c.in-Some-last_copy.sized.mtime c.args.reading) es (find from es)) (state_with d es) }) (sym c.replica-name.ensures)
-    ∙ ap (λ v. record { answer = Back v; state = with_held (store.rename from to v es (find from es)) (state_with d es) }) (sym c.renewed_time-mtime.ensures)) c.known.ensures c.last_copy.ensures.told)
+    ∙ ap (λ v. record { answer = Back v; state = with_held (store.rename from to v es (find from es)) (state_with d es) }) (sym c.renewed_time-mtime.ensures)) c.known.ensures c.last_copy.ensures.last_copy)
     (λ e. cc e)
