@@ -86,7 +86,7 @@ impl Answer {
         }
     }
 
-    // Writes the line behind its mark; in hexadecimal digits where it has a control character or is no UTF-8.
+    // Writes the line after its mark; in hexadecimal digits where it has a control character or is no UTF-8.
     fn flush(&mut self, mark: &[u8]) {
         self.add(mark);
         if is_plain(&self.line) {

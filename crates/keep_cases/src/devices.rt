@@ -143,7 +143,7 @@ fn digest_of(alloc: Global, word: &str) -> Result<Option<Digest>, OutOfMemory> {
     Ok(block_of(alloc, word)?.map(|block| block.digest()))
 }
 
-// The query of a line, behind its reading.
+// The query of a line, after its reading.
 fn query_of(alloc: Global, words: &[&str]) -> Result<Option<DeviceQuery>, OutOfMemory> {
     match word_at(words, 1) {
         "clear" => Ok(Some(DeviceQuery::Clear {
@@ -182,7 +182,7 @@ fn query_about(alloc: Global, kind: &str, word: &str) -> Result<Option<DeviceQue
     }
 }
 
-// The lists of an `accept`: behind the round four words for each item.
+// The lists of an `accept`: after the round four words for each item.
 fn lists_of(alloc: Global, words: &[&str]) -> Result<Lists, OutOfMemory> {
     let mut trash = Vec::new(alloc);
     let mut pull = Vec::new(alloc);

@@ -55,7 +55,7 @@ pub fn answer_commands(alloc: Global, case: &Case, answer: &mut Answer) {
     }
 }
 
-// The lines before the first empty line, and those behind it.
+// The lines before the first empty line, and those after it.
 fn split_at_empty_line(text: &[u8]) -> (&[u8], &[u8]) {
     for (at, pair) in text.windows(2).enumerate() {
         if pair == b"\n\n".as_slice() {

@@ -66,7 +66,7 @@ impl Desk {
     }
 }
 
-// The words of a query, and what stands behind them.
+// The words of a query, and the rest.
 #[derive(Drop)]
 struct Words<'a> {
     rest: &'a str,

@@ -8,7 +8,7 @@ use keep_sign::sign_manifest;
 use keep_spec::{Bytes, NoMemory};
 use std::alloc::Global;
 
-/// Returns the text of a row that a read answered, with each locator but empty blocks signed for `token` until `expiry` (seconds since 1970). Without an expiry, as of a collection in the trash, and where it isn't a manifest, which the table never answers, the text comes back as it is.
+/// Returns the text of a row that a read answered, with each locator but empty blocks signed for `token` until `expiry` (seconds since 1970). Without an expiry, as of a collection in the trash, and where it isn't a manifest, which the table never answers, the text is returned unchanged.
 #[tactic(auto, unfolding(keep_event::specs::Collections::signed_row))]
 pub fn signed_row(
     alloc: Global,

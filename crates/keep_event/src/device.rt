@@ -104,7 +104,7 @@ pub enum DeviceAnswer {
     },
     /// The round is kept, and both lists are empty.
     Cleared,
-    /// Both lists were replaced by these, with so many items.
+    /// Both lists were replaced by these; `trash` and `pull` are their numbers of items.
     Accepted {
         trash: u64,
         pull: u64,

@@ -204,7 +204,7 @@ pub enum TableAnswer {
     },
     /// The wanted number of copies isn't within 1 to 255.
     BadWant,
-    /// The collection holds as many versions that aren't due as the configuration allows, or more: so many.
+    /// The collection holds as many versions that aren't due as the configuration allows, or more; `held` is their number.
     TooManyVersions {
         held: u64,
     },

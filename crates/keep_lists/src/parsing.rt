@@ -153,7 +153,7 @@ fn trash_items(
     Ok(items)
 }
 
-// Pull items are numbered after the trash items, of which there are so many.
+// Pull items are numbered after the `trash` items.
 fn pull_items(
     alloc: Global,
     config: &Config,

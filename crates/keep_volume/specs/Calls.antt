@@ -65,23 +65,23 @@ pub record IsOpened (told : Option (List (Name × Stored))) (noted : Option ℕ)
   pub pull : d.pull ≡ []
   pub rules : d.rules ≡ given
 
--- a store that comes back as it was, and a fault has its cause in its count
+-- a store that is returned unchanged, and a fault has its cause in its count
 abbrev pub IsGivenBack : {S : Type 0} → Option (List (Name × Stored)) → Option ℕ → ℕ → (S → Option (List (Name × Stored))) → (S → Option ℕ) → (S → ℕ) → OpenError S → Type 0
 IsGivenBack held noted faults h n f (StoreFault s) = (h s ≡ held) × (n s ≡ noted) × Rose faults (f s)
 IsGivenBack held noted faults h n f (NoMemory s) = (h s ≡ held) × (n s ≡ noted) × (faults ≤ f s)
 
--- the line exactly, whatever the contents are, told or not, and without the store
+-- the line exactly, whatever the contents are, whether the store tells them or not, and without asking it
 pub record IsExactly (line : State → Reply) (old new : VolumeView) (result : Result DeviceAnswer memory.NoMemory) : Type 0 where
   pub told : (es : List (Name × Stored)) → (result ≡ Ok (line (state_with old es)).answer) × (state_with new es ≡ (line (state_with old es)).state)
   pub held : new.held ≡ old.held
   pub faults : new.faults ≡ old.faults
   pub rules : new.rules ≡ old.rules
 
--- a line that doesn't read the contents: the same whatever they are, told or not
+-- a line that doesn't read the contents: the same whatever they are, and whether the store tells them or not
 abbrev pub IsLineUntold : (State → Reply) → VolumeView → VolumeView → Result DeviceAnswer memory.NoMemory → Type 0
 IsLineUntold line old new result = (es : List (Name × Stored)) → IsToldLine line (state_with old es) (Some (state_with new es)) result
 
--- a device that is read only answers so and stays as it is, told or not, and no other answers so
+-- a device that is read only answers so and stays as it is, whether its store tells or not, and no other answers so
 pub record HasReadOnly (old new : VolumeView) (result : Result DeviceAnswer memory.NoMemory) : Type 0 where
   pub given : old.rules.read_only ≡ true → (result ≡ Ok answers.ReadOnly) × (new ≡ old)
   pub only : result ≡ Ok answers.ReadOnly → old.rules.read_only ≡ true
@@ -97,12 +97,12 @@ pub record HasLowerStale (round : ℕ) (old new : VolumeView) (result : Result D
   pub given : round < old.round → (result ≡ Ok (answers.Stale old.round)) × (new ≡ old)
   pub only : (held : ℕ) → result ≡ Ok (answers.Stale held) → round < old.round
 
--- a round other than the kept one is answered Stale, told or not, and no other
+-- a round other than the kept one is answered Stale, whether the store tells or not, and no other
 pub record HasStale (round : ℕ) (old new : VolumeView) (result : Result DeviceAnswer memory.NoMemory) : Type 0 where
   pub given : round ≢ old.round → (result ≡ Ok (answers.Stale old.round)) × (new ≡ old)
   pub only : (held : ℕ) → result ≡ Ok (answers.Stale held) → round ≢ old.round
 
--- an empty trash list is answered Idle, told or not, and no other
+-- an empty trash list is answered Idle, whether the store tells or not, and no other
 pub record HasIdle (old new : VolumeView) (result : Result DeviceAnswer memory.NoMemory) : Type 0 where
   pub given : old.trash ≡ [] → (result ≡ Ok answers.Idle) × (new ≡ old)
   pub only : result ≡ Ok answers.Idle → old.trash ≡ []

@@ -22,7 +22,7 @@ use std::alloc::Global;
 use std::collections::VecDeque;
 use std::marker::Model;
 
-/// Why a device was not opened. The store comes back as it was.
+/// Why a device was not opened. The store is returned unchanged.
 #[derive(Drop)]
 pub enum OpenError<S> {
     /// One of the two calls of the store failed, which the store counts among its faults.
@@ -76,7 +76,7 @@ fn nanos_of(seconds: u32) -> u64
 }
 
 impl<S: Store> Volume<S> {
-    /// Opens a device over its store: both lists are empty, and the round is the store's note. It makes two calls of the store, `note` and then `names_from`. On error the store comes back as it was.
+    /// Opens a device over its store: both lists are empty, and the round is the store's note. It makes two calls of the store, `note` and then `names_from`. On error the store is returned unchanged.
     pub fn open(alloc: Global, store: S, rules: DeviceRules) -> Result<Volume<S>, OpenError<S>>
         ensures opened { IfOk result (λ v. IsOpened (S.held store) (S.noted store) rules v) }
         ensures never_falls { IfOk result (λ v. S.faults store ≤ v.faults) }
