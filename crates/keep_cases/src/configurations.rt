@@ -1,22 +1,39 @@
 // Configurations, one a line: `ok`, or the first bad field. A line that begins with a letter changes the configuration of the settings `base FIELD VALUE` (of two
 // with one field the last counts): `FIELD VALUE` gives a field this value, or adds it, and `FIELD` alone leaves it out. In a base's value `list N MEMBER` is a list of
-// N members, where `#` stands for 15 digits of the member's number and `@` for that number modulo 64, and `repeat N PIECE` is a text of N pieces.
+// N members, where `#` stands for 15 digits of the member's number and `@` for that number modulo 64, and `repeat N PIECE` is a text of N pieces. A line that begins
+// with `?` asks about the last configuration that was ok: `? token TEXT` the number of a token, `? text NUMBER` the text of one, `? devices SERVER` the devices of a
+// server, `? device NUMBER` whether a device is read-only, `? threshold START`, `? trash_life` and `? grace` spans in nanoseconds.
 use crate::answer::Answer;
 use crate::book::{Case, Setting};
 use crate::error::OutOfMemory;
-use keep_config::{Config, ConfigError};
+use keep_config::{Config, ConfigError, TokenId};
 use std::alloc::Global;
 use std::str::from_utf8;
 
 pub fn answer(alloc: Global, case: &Case, answer: &mut Answer) {
+    let mut last = None;
     for line in case.body().split(|byte| *byte == b'\n') {
-        if !begins_with_letter(line) {
-            answer_text(alloc, line, answer);
-            continue;
+        match line.strip_prefix(b"? ") {
+            Some(question) => answer_question(alloc, last.as_ref(), question, answer),
+            None => last = answer_line(alloc, case.settings(), line, answer),
         }
-        match changed(alloc, case.settings(), from_utf8(line).unwrap_or("")) {
-            Ok(text) => answer_text(alloc, text.as_bytes(), answer),
-            Err(_) => answer.cut(),
+    }
+}
+
+fn answer_line(
+    alloc: Global,
+    settings: &[Setting],
+    line: &[u8],
+    answer: &mut Answer,
+) -> Option<Config> {
+    if !begins_with_letter(line) {
+        return answer_text(alloc, line, answer);
+    }
+    match changed(alloc, settings, from_utf8(line).unwrap_or("")) {
+        Ok(text) => answer_text(alloc, text.as_bytes(), answer),
+        Err(_) => {
+            answer.cut();
+            None
         }
     }
 }
@@ -28,11 +45,73 @@ fn begins_with_letter(line: &[u8]) -> bool {
     }
 }
 
-fn answer_text(alloc: Global, text: &[u8], answer: &mut Answer) {
+fn answer_text(alloc: Global, text: &[u8], answer: &mut Answer) -> Option<Config> {
     match Config::read(alloc, text) {
-        Ok(_) => answer.value(b"ok"),
-        Err(ConfigError::BadConfig { field }) => answer.value(field.name().as_bytes()),
-        Err(ConfigError::NoMemory) => answer.cut(),
+        Ok(config) => {
+            answer.value(b"ok");
+            Some(config)
+        }
+        Err(ConfigError::BadConfig { field }) => {
+            answer.value(field.name().as_bytes());
+            None
+        }
+        Err(ConfigError::NoMemory) => {
+            answer.cut();
+            None
+        }
+    }
+}
+
+fn answer_question(alloc: Global, last: Option<&Config>, question: &[u8], answer: &mut Answer) {
+    let Some(config) = last else {
+        return answer.value(b"no configuration");
+    };
+    let question = from_utf8(question).unwrap_or("");
+    let (word, value) = question.split_once(' ').unwrap_or((question, ""));
+    match word {
+        "token" => answer_token(config.token(value.as_bytes()), answer),
+        "text" => answer_token_text(config, value.parse::<u32>().unwrap_or(0), answer),
+        "devices" => answer_devices(alloc, config, value.parse::<u32>().unwrap_or(0), answer),
+        "device" => answer_device(config, value.parse::<u32>().unwrap_or(0), answer),
+        "threshold" => answer.number(config.threshold(value.parse::<u64>().unwrap_or(0))),
+        "trash_life" => answer.number(config.trash_life_nanos()),
+        _ => answer.number(config.grace_nanos()),
+    }
+    answer.end();
+}
+
+fn answer_token(token: Option<TokenId>, answer: &mut Answer) {
+    match token {
+        Some(token) => answer.number(u64::from(token.number)),
+        None => answer.text(b"none"),
+    }
+}
+
+fn answer_token_text(config: &Config, number: u32, answer: &mut Answer) {
+    if number as usize <= config.tokens.as_slice().len() {
+        answer.text(config.token_text(TokenId { number }));
+    }
+}
+
+fn answer_devices(alloc: Global, config: &Config, server: u32, answer: &mut Answer) {
+    match config.devices_of(alloc, server) {
+        Ok(devices) => {
+            for (i, device) in devices.iter().enumerate() {
+                if i > 0 {
+                    answer.text(b" ");
+                }
+                answer.number(u64::from(*device));
+            }
+        }
+        Err(_) => answer.cut(),
+    }
+}
+
+fn answer_device(config: &Config, number: u32, answer: &mut Answer) {
+    match config.devices.as_slice().get(number as usize) {
+        Some(device) if device.read_only => answer.text(b"read-only"),
+        Some(_) => answer.text(b"writable"),
+        None => answer.text(b"none"),
     }
 }
 
