@@ -43,6 +43,7 @@ impl Gather {
     ghost use Rattle.keep_gather.specs.Shown.{page_of, scan_of};
     ghost use Rattle.keep_gather.specs.Scanned.{scanned_by};
 
+    /// A round of which nothing is gathered yet. `started` is the reading at which it began, in nanoseconds since 1970. Takes no memory.
     pub fn new(alloc: Global, round: u64, started: u64) -> Gather
         ensures { result ≡ nothing_gathered round started }
     {
@@ -120,6 +121,7 @@ impl Gather {
         }
     }
 
+    /// The round's number.
     pub fn round(&self) -> u64
         ensures { result ≡ self.now.round }
     {

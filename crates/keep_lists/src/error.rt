@@ -9,6 +9,7 @@ pub enum IndexError {
     BadIndex { at: usize },
     /// No line is bad, and the text doesn't end with the empty line.
     CutIndex,
+    /// Memory was refused.
     NoMemory,
 }
 
@@ -28,6 +29,7 @@ impl From<NoMemory> for IndexError {
 pub enum ListsError {
     /// The number of the first bad item, from 1, trash items first; 0 where the text isn't one object of exactly the two lists.
     BadList { item: u64 },
+    /// Memory was refused.
     NoMemory,
 }
 
