@@ -8,8 +8,6 @@ mod error;
 mod fields;
 pub mod json;
 mod limits;
-#[cfg(test)]
-mod tests;
 
 pub use config::Config;
 pub use error::ConfigError;

@@ -5,8 +5,6 @@ mod hint;
 mod hint_state;
 mod laws;
 mod locator;
-#[cfg(test)]
-mod tests;
 
 pub use hint::{first_hint, is_permission_hint};
 pub use keep_spec::{Digest, PORTABLE_MAX, Permission, Portable, Unverified};

@@ -9,8 +9,6 @@ mod line;
 mod names;
 mod parsing;
 mod segment;
-#[cfg(test)]
-mod tests;
 mod writing;
 
 pub use cut::cut_token;

@@ -15,8 +15,6 @@ mod path;
 mod segments;
 mod span;
 mod stripping;
-#[cfg(test)]
-mod tests;
 
 pub use fault::NormalError;
 pub use hash::{portable_hash, stripped_text};

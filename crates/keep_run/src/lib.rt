@@ -8,7 +8,5 @@ mod locator;
 mod opening;
 mod run;
 mod stage;
-#[cfg(test)]
-mod tests;
 
 pub use call::run_call;

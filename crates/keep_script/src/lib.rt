@@ -12,6 +12,3 @@ mod tables;
 pub use line::read_command;
 pub use printed::{push_end_line, push_event_line};
 pub use tables::push_table_event_line;
-
-#[cfg(test)]
-mod tests;

@@ -5,8 +5,6 @@ mod hint;
 mod laws;
 mod mac;
 mod signature;
-#[cfg(test)]
-mod tests;
 mod text;
 mod verification;
 
