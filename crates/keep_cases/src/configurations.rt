@@ -2,7 +2,8 @@
 // with one field the last counts): `FIELD VALUE` gives a field this value, or adds it, and `FIELD` alone leaves it out. In a base's value `list N MEMBER` is a list of
 // N members, where `#` stands for 15 digits of the member's number and `@` for that number modulo 64, and `repeat N PIECE` is a text of N pieces. A line that begins
 // with `?` asks about the last configuration that was ok: `? token TEXT` the number of a token, `? text NUMBER` the text of one, `? devices SERVER` the devices of a
-// server, `? device NUMBER` whether a device is read-only, `? threshold START`, `? trash_life` and `? grace` spans in nanoseconds.
+// server, `? device NUMBER` whether a device is read-only, and its capacity, `? addresses SERVER` how many a server has, `? cluster`, `? secret`, `? numbers` those of
+// the other fields, `? threshold START`, `? trash_life`, `? guard` and `? grace` spans in nanoseconds.
 use crate::answer::Answer;
 use crate::book::{Case, Setting};
 use crate::error::OutOfMemory;
@@ -73,6 +74,11 @@ fn answer_question(alloc: Global, last: Option<&Config>, question: &[u8], answer
         "text" => answer_token_text(config, value.parse::<u32>().unwrap_or(0), answer),
         "devices" => answer_devices(alloc, config, value.parse::<u32>().unwrap_or(0), answer),
         "device" => answer_device(config, value.parse::<u32>().unwrap_or(0), answer),
+        "addresses" => answer_addresses(config, value.parse::<u32>().unwrap_or(0), answer),
+        "cluster" => answer.text(config.cluster.as_slice()),
+        "secret" => answer.text(config.secret.as_slice()),
+        "numbers" => answer_numbers(config, answer),
+        "guard" => answer.number(config.guard_nanos()),
         "threshold" => answer.number(config.threshold(value.parse::<u64>().unwrap_or(0))),
         "trash_life" => answer.number(config.trash_life_nanos()),
         _ => answer.number(config.grace_nanos()),
@@ -109,9 +115,38 @@ fn answer_devices(alloc: Global, config: &Config, server: u32, answer: &mut Answ
 
 fn answer_device(config: &Config, number: u32, answer: &mut Answer) {
     match config.devices.as_slice().get(number as usize) {
-        Some(device) if device.read_only => answer.text(b"read-only"),
-        Some(_) => answer.text(b"writable"),
+        Some(device) => {
+            answer.text(if device.read_only {
+                "read-only "
+            } else {
+                "writable "
+            }
+            .as_bytes());
+            answer.number(device.capacity);
+        }
         None => answer.text(b"none"),
+    }
+}
+
+fn answer_addresses(config: &Config, server: u32, answer: &mut Answer) {
+    match config.servers.as_slice().get(server as usize) {
+        Some(server) => answer.number(server.addresses.len() as u64),
+        None => answer.text(b"none"),
+    }
+}
+
+fn answer_numbers(config: &Config, answer: &mut Answer) {
+    let numbers = [
+        ("ttl ", config.ttl),
+        (", skew ", config.skew),
+        (", versions ", config.versions),
+        (", trash_life ", config.trash_life),
+        (", index_digits ", config.index_digits),
+        (", scan_limit ", config.scan_limit),
+    ];
+    for (name, number) in &numbers {
+        answer.text(name.as_bytes());
+        answer.number(u64::from(*number));
     }
 }
 
