@@ -7,3 +7,4 @@ pub mod Plan
 pub mod Requests
 pub mod Store
 pub mod Table
+pub mod World
