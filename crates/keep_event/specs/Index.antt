@@ -1,6 +1,6 @@
 -- The text of an index: a line `digest+size mtime` for each replica, the time in nanoseconds since 1970, and an empty line at the end, as Arvados' keepstore has it. That the lines ascend by digest is this project's own rule.
 use Rattle.std.specs.Prelude.{◌≡◌, ◌<◌, ◌^◌, ℕ, ◌+◌, ◌==◌, ◌&&◌, List, [], ◌∷◌, ◌++◌, length, take, drop, slice_index, Bool, true, false, Option, None, Some, option_and_then, Result, Ok, Err, if◌then◌else◌, decimal, ⊤}
-use Rattle.std.specs.List.{AllByRecursion, before_first, after_first, filter_map, flat_map, last_or, list_any}
+use Rattle.std.specs.List.{before_first, after_first, filter_map, flat_map, last_or, list_any}
 use Rattle.std.specs.Option.{option_map_or}
 use Rattle.std.specs.Ordering.{nat_cmp, is_lt}
 use Rattle.std.specs.Cmp.Lexicographic.{slice_cmp}

@@ -1,9 +1,11 @@
+pub mod Answers
 pub mod Block
 pub mod Collections
 pub mod Device
 pub mod Index
 pub mod Lists
 pub mod Plan
+pub mod Port
 pub mod Requests
 pub mod Store
 pub mod Table

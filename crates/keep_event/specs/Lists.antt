@@ -1,8 +1,8 @@
 -- The text of the lists that a device is given: one JSON object. Its names and its locators are those of Arvados' trash and pull lists; that one list is of one device, which is named by any of its mounts, is this project's own rule.
-use Rattle.std.specs.Prelude.{◌≡◌, ◌<◌, ◌^◌, ℕ, ◌+◌, ◌==◌, ◌&&◌, List, [], ◌∷◌, length, map, find, Bool, false, Option, None, Some, option_and_then, option_map, Result, Ok, Err, if◌then◌else◌, codes, bytes_eq}
+use Rattle.std.specs.Prelude.{◌<◌, ◌^◌, ℕ, ◌+◌, ◌==◌, ◌&&◌, List, [], ◌∷◌, length, map, find, Bool, false, Option, None, Some, option_and_then, option_map, Result, Ok, Err, if◌then◌else◌, codes, bytes_eq}
 use Rattle.std.specs.List.{AllByRecursion, list_any}
 use Rattle.std.specs.Option.{option_map_or}
-use Rattle.serde_json.specs.Data.{Data, object, array, string, number, unsigned, Items, no_items, item, Members, no_members, member}
+use Rattle.serde_json.specs.Data.{Data, object, array, string, number, unsigned, Items, no_items, item, no_members, member}
 use Rattle.serde_json.specs.Find.{get, as_array, as_str}
 use Rattle.serde_json.specs.View.{items_of}
 use Rattle.serde_json.specs.Written.{compact_text}

@@ -1,6 +1,6 @@
 -- The plan of a round: of what devices and table gave, which replicas are trashed, which are pulled, and which blocks are lost. This is the project's own rule, after Arvados' keep-balance.
 -- What was gathered is listed with the latest first, as a history is.
-use Rattle.std.specs.Prelude.{ℕ, ◌+◌, max, ◌==◌, ◌&&◌, ◌||◌, nat_lt, not, List, [], ◌∷◌, ◌++◌, length, map, filter, filter_map, flat_map, take, Bool, true, false, Option, None, Some, is_some, unwrap_or, if◌then◌else◌, slice_get}
+use Rattle.std.specs.Prelude.{ℕ, max, ◌==◌, ◌&&◌, ◌||◌, nat_lt, not, List, [], ◌∷◌, ◌++◌, length, map, filter, filter_map, flat_map, take, Bool, true, false, Option, None, Some, is_some, unwrap_or, if◌then◌else◌, slice_get}
 use Rattle.std.specs.List.{list_any, last_or}
 use Rattle.std.specs.Option.{option_or, option_map_or}
 use Rattle.std.specs.Str.{bytes_eq}

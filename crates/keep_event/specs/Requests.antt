@@ -1,5 +1,5 @@
 -- The table machine's reply to each query as it is asked: by a token's text, and a save or an update with all that is tested of its request. This is the project's own rule.
-use Rattle.std.specs.Prelude.{ℕ, ◌+◌, ◌&&◌, nat_le, Bool, List, [], ◌∷◌, length, Option, None, Some, option_map, Result, Ok, Err, if◌then◌else◌}
+use Rattle.std.specs.Prelude.{ℕ, ⊤, ◌+◌, ◌<◌, ◌&&◌, nat_le, Bool, List, [], ◌∷◌, length, Option, None, Some, option_map, Result, Ok, Err, if◌then◌else◌}
 use Rattle.std.specs.List.{flat_map}
 use Rattle.std.specs.Option.{option_or, option_map_or}
 use Rattle.std.specs.Ordering.{nat_cmp, match_ordering}
@@ -13,6 +13,7 @@ use Rattle.keep_spec.specs.Refusals.{bad}
 use Rattle.keep_spec.specs.Sign.{verdict}
 use Rattle.keep_spec.specs.SignedText.{unsigned, with_locators}
 use Rattle.keep_spec.specs.Stripped.{portable_hash}
+use Rattle.keep_spec.specs.Times.{IsReading}
 use Rattle.keep_spec.specs.declared.manifest.Manifest.{Manifest}
 use Rattle.keep_spec.specs.declared.manifest.Refusal.{Refusal}
 use Rattle.keep_spec.specs.declared.portable.Portable.{Portable}
@@ -31,6 +32,17 @@ use Rattle.keep_event.specs.declared.table.TableQuery.TheVariants as queries
 -- what the table has of a configuration
 abbrev pub rules_of : Configuration → TableRules
 rules_of c = record { tokens = length c.tokens; versions = c.versions; ttl = c.ttl; skew = c.skew }
+
+-- what may be asked: a time that is set is a reading, and a page of a scan has room for a row
+abbrev pub MayAskTable : TableQuery → Type 0
+MayAskTable queries.BeginRound = ⊤
+MayAskTable (queries.Save request) = ⊤
+MayAskTable (queries.Update collection preserve request) = ⊤
+MayAskTable (queries.Read token collection version) = ⊤
+MayAskTable (queries.SetTrash token collection trash_at delete_at) = IsReading trash_at
+MayAskTable (queries.Restore token collection) = ⊤
+MayAskTable queries.Sweep = ⊤
+MayAskTable (queries.Scan round after limit) = 0 < limit
 
 -- ---- what is tested of a request, in this order
 

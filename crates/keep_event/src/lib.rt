@@ -4,8 +4,10 @@
 mod block;
 mod device;
 mod event;
+mod failing;
 mod lists;
 mod names;
+mod port;
 mod table;
 #[cfg(test)]
 mod tests;
@@ -13,8 +15,10 @@ mod tests;
 pub use block::{Block, TooLong};
 pub use device::{DeviceAnswer, DeviceQuery, DeviceRules};
 pub use event::{Answer, Event, Journal, Place, Query};
+pub use failing::FailingPort;
 pub use lists::{Entry, Lists, PullItem, TrashItem};
 pub use names::{Held, Metadata, Name, Stored};
+pub use port::{Port, PortError, Reply};
 pub use table::{
     Collection, NewRecord, Record, SaveRequest, ScanRow, Standing, TableAnswer, TableQuery,
     TableRules,
