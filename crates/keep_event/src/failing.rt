@@ -55,7 +55,7 @@ impl<P: Port> FailingPort<P> {
     // Counts a call, and says whether it is to fail.
     fn is_failing(&mut self) -> bool
         ensures listed { result ≡ is_failing self.old.failing.items self.old.calls }
-        ensures later { self.old.faults ≤ self.new.faults }
+        ensures never_falls { self.old.faults ≤ self.new.faults }
         ensures counts { self.new ≡ record self.old { calls = counted self.old.calls; faults = if result then counted self.old.faults else self.old.faults } }
     {
         self.calls = self.calls.saturating_add(1);

@@ -1,5 +1,5 @@
 // A device over a store.
-ghost use Rattle.std.specs.Prelude.{◌≡◌, ◌↔◌, ◌≤◌, IsTrue, option_copied, [], true, false, IfOk, IsOk, IfSome, Some, None, option_map, max, map, sum_by, IfErr, ◌+◌, ◌-◌, ◌*◌, ◌^◌, slice_get};
+ghost use Rattle.std.specs.Prelude.{◌≡◌, ◌↔◌, ◌≤◌, ◌||◌, IsTrue, option_copied, [], true, false, IfOk, IsOk, IfSome, Some, None, option_map, max, map, sum_by, IfErr, ◌+◌, ◌-◌, ◌*◌, ◌^◌, slice_get};
 ghost use Rattle.md5.specs.Md5.{md5};
 ghost use Rattle.keep_spec.specs.Times.{IsReading, nanos};
 ghost use Rattle.keep_event.specs.Device as machine;
@@ -9,6 +9,7 @@ ghost use Rattle.std.specs.List.{find as list_find, last_or, filter};
 ghost use Rattle.keep_volume.specs.Calls.{IsLine, IsLineUntold, IsExactly, HasReadOnly, HasReadOnlyItem, HasLowerStale, HasStale, HasStaleRound, HasIdle, IsReopened, state_of, VolumeView, over, IsOpened, IsGivenBack, is_refused, takes_memory};
 ghost use Rattle.keep_volume.specs.Steps.{IsStoreCall, IsItem, without_first, without_lists};
 ghost use Rattle.keep_store.specs.Causes.{HasStoreCause};
+ghost use Rattle.keep_event.specs.Answers.{is_compared, is_written, is_fetched, is_touched, is_cleared, is_accepted, is_page, is_trashed, is_pulled, is_untrashed, is_emptied, is_restarted, is_store_fault, is_device_answer};
 
 use crate::index::Index;
 use keep_event::{
@@ -156,6 +157,7 @@ impl<S: Store> Volume<S> {
         ensures read_only { is_refused query.now ≡ true → HasReadOnly self.old self.new result }
         ensures stale { HasStaleRound query.now self.old self.new result }
         ensures memory { takes_memory query.now ≡ false → IsOk result }
+        ensures listed { IfOk result (λ a. IsTrue (is_device_answer query.now a)) }
     {
         match query {
             DeviceQuery::CompareTouch { block, token } => {
@@ -184,6 +186,7 @@ impl<S: Store> Volume<S> {
     ) -> Result<DeviceAnswer, NoMemory>
         ensures line { IsLine (machine.compare_touch self.old.rules block.now reading) self.old self.new result }
         ensures read_only { HasReadOnly self.old self.new result }
+        ensures listed { IfOk result (λ a. IsTrue (is_compared a || is_store_fault a)) }
     {
         if self.rules.read_only {
             return Ok(DeviceAnswer::ReadOnly);
@@ -214,6 +217,7 @@ impl<S: Store> Volume<S> {
     ) -> Result<DeviceAnswer, NoMemory>
         ensures line { IsLine (machine.write self.old.rules block.now reading) self.old self.new result }
         ensures read_only { HasReadOnly self.old self.new result }
+        ensures listed { IfOk result (λ a. IsTrue (is_written a || is_store_fault a)) }
     {
         if self.rules.read_only {
             return Ok(DeviceAnswer::ReadOnly);
@@ -240,7 +244,8 @@ impl<S: Store> Volume<S> {
 
     /// Returns the bytes of the replica, where their MD5 is the digest. The reading doesn't matter.
     pub fn fetch(&mut self, _reading: u64, digest: &Digest) -> Result<DeviceAnswer, NoMemory>
-        ensures { IsLine (machine.fetch digest.now) self.old self.new result }
+        ensures line { IsLine (machine.fetch digest.now) self.old self.new result }
+        ensures listed { IfOk result (λ a. IsTrue (is_fetched a || is_store_fault a)) }
     {
         let name = replica(*digest);
         let stored = match self.stored(&name) {
@@ -268,6 +273,7 @@ impl<S: Store> Volume<S> {
         ensures line { IsLine (machine.touch self.old.rules digest.now reading) self.old self.new result }
         ensures read_only { HasReadOnly self.old self.new result }
         ensures takes_no_memory { IsOk result }
+        ensures listed { IfOk result (λ a. IsTrue (is_touched a || is_store_fault a)) }
     {
         if self.rules.read_only {
             return Ok(DeviceAnswer::ReadOnly);
@@ -289,6 +295,7 @@ impl<S: Store> Volume<S> {
         ensures whatever_is_told { IsLineUntold (machine.clear round) self.old self.new result }
         ensures stale { HasLowerStale round self.old self.new result }
         ensures takes_no_memory { IsOk result }
+        ensures listed { IfOk result (λ a. IsTrue (is_cleared a || is_store_fault a)) }
     {
         if round < self.round {
             return Ok(DeviceAnswer::Stale { held: self.round });
@@ -312,6 +319,7 @@ impl<S: Store> Volume<S> {
         ensures exact { IsExactly (machine.accept round lists) self.old self.new result }
         ensures no_fault { result ≡ Ok DeviceAnswer.StoreFault → ⊥ }
         ensures takes_no_memory { IsOk result }
+        ensures listed { IfOk result (λ a. IsTrue (is_accepted a)) }
     {
         if round != self.round {
             return Ok(DeviceAnswer::Stale { held: self.round });
@@ -334,6 +342,7 @@ impl<S: Store> Volume<S> {
         ensures line { IsLine (machine.page prefix.now round) self.old self.new result }
         ensures no_fault { result ≡ Ok DeviceAnswer.StoreFault → ⊥ }
         ensures stale { HasStale round self.old self.new result }
+        ensures listed { IfOk result (λ a. IsTrue (is_page a || is_store_fault a)) }
     {
         if self.round != round {
             return Ok(DeviceAnswer::Stale { held: self.round });
@@ -352,6 +361,7 @@ impl<S: Store> Volume<S> {
         ensures read_only { HasReadOnlyItem self.old self.new result }
         ensures idle { HasIdle self.old self.new result }
         ensures takes_no_memory { IsOk result }
+        ensures listed { IfOk result (λ a. IsTrue (is_trashed a || is_store_fault a)) }
     {
         let Some(item) = self.first_trash() else {
             return Ok(DeviceAnswer::Idle);
@@ -371,6 +381,7 @@ impl<S: Store> Volume<S> {
         ensures exact { IsExactly machine.pull_next self.old self.new result }
         ensures no_fault { result ≡ Ok DeviceAnswer.StoreFault → ⊥ }
         ensures takes_no_memory { IsOk result }
+        ensures listed { IfOk result (λ a. IsTrue (is_pulled a)) }
     {
         let Some(item) = self.pull.pop_front() else {
             return Ok(DeviceAnswer::Idle);
@@ -383,6 +394,7 @@ impl<S: Store> Volume<S> {
         ensures line { IsLine (machine.untrash self.old.rules digest.now reading) self.old self.new result }
         ensures read_only { HasReadOnly self.old self.new result }
         ensures takes_no_memory { IsOk result }
+        ensures listed { IfOk result (λ a. IsTrue (is_untrashed a || is_store_fault a)) }
     {
         if self.rules.read_only {
             return Ok(DeviceAnswer::ReadOnly);
@@ -406,6 +418,7 @@ impl<S: Store> Volume<S> {
         ensures line { IsLine (machine.empty_next self.old.rules reading) self.old self.new result }
         ensures read_only { HasReadOnly self.old self.new result }
         ensures takes_no_memory { IsOk result }
+        ensures listed { IfOk result (λ a. IsTrue (is_emptied a || is_store_fault a)) }
     {
         if self.rules.read_only {
             return Ok(DeviceAnswer::ReadOnly);
@@ -427,6 +440,7 @@ impl<S: Store> Volume<S> {
         ensures exact { IsExactly machine.restart self.old self.new result }
         ensures no_fault { result ≡ Ok DeviceAnswer.StoreFault → ⊥ }
         ensures takes_no_memory { IsOk result }
+        ensures listed { IfOk result (λ a. IsTrue (is_restarted a)) }
     {
         self.drop_lists();
         Ok(DeviceAnswer::Restarted)
@@ -496,6 +510,7 @@ impl<S: Store> Volume<S> {
     fn place(&mut self, mtime: u64, block: &Block) -> Result<DeviceAnswer, NoMemory>
         ensures line { IsLine (machine.placed self.old.rules block.now mtime) self.old self.new result }
         ensures placed { result ≡ Ok DeviceAnswer.ReadOnly → ⊥ }
+        ensures listed { IfOk result (λ a. IsTrue (is_written a || is_store_fault a)) }
     {
         let name = replica(block.digest());
         let size = block.bytes().len() as u64;
@@ -540,6 +555,7 @@ impl<S: Store> Volume<S> {
         ensures item { IsItem (machine.trash_item self.old.rules item reading) self.old self.new result }
         ensures read_only { self.old.rules.read_only ≡ true → (result ≡ Ok DeviceAnswer.ReadOnly) × (self.new ≡ self.old) }
         ensures busy { result ≡ Ok DeviceAnswer.Idle → ⊥ }
+        ensures listed { IfOk result (λ a. IsTrue (is_trashed a)) }
     {
         if self.rules.read_only {
             return Ok(DeviceAnswer::ReadOnly);
@@ -586,6 +602,7 @@ impl<S: Store> Volume<S> {
     ) -> Result<DeviceAnswer, NoMemory>
         ensures line { IsLine (machine.accept round lists.now) self.old self.new result }
         ensures no_fault { result ≡ Ok DeviceAnswer.StoreFault → ⊥ }
+        ensures listed { IfOk result (λ a. IsTrue (is_accepted a)) }
     {
         let copy = lists.duplicate(self.alloc)?;
         self.accept(reading, round, copy)
@@ -608,7 +625,8 @@ fn digest_of(bytes: &[u8]) -> Digest
 
 // The answer at a replica that holds other bytes than the block.
 fn other_bytes(block: &Block, held: &[u8]) -> DeviceAnswer
-    ensures { result ≡ machine.other_answer block.now held.now }
+    ensures answer { result ≡ machine.other_answer block.now held.now }
+    ensures listed { IsTrue (is_compared result) }
 {
     let found = digest_of(held);
     if found == block.digest() {

@@ -7,7 +7,7 @@ pub returns-then-is_failing-clause-failed : goal.returns-then-is_failing-clause-
 returns-then-is_failing-clause-failed g c =
     let before = g.P.Port.faults c.args.self.now.port in
     let P : ℕ → Type 0 = λ n. Rose (before + c.args.self.now.faults) n × (before + c.args.self.now.faults ≤ n) in
-    subst P (search rules) (sum-rises before c.args.self.now.faults c.is_failing.new.self.faults c.is_failing.ensures.later (search rules))
+    subst P (search rules) (sum-rises before c.args.self.now.faults c.is_failing.new.self.faults c.is_failing.ensures.never_falls (search rules))
 
 pub returns-then-is_failing-clause-planned : goal.returns-then-is_failing-clause-planned
 returns-then-is_failing-clause-planned g c =

@@ -21,7 +21,7 @@ pub returns-then-ne-clause-line : goal.returns-then-ne-clause-line
 returns-then-ne-clause-line g c =
     let d = c.args.self.now in
     over-line _ d c.stored.new.self (λ es. es) c.stored.ensures.unchanged c.stored.ensures.cause.never_falls c.other_bytes.result
-    (told-map d.held (λ es k. compare-other d.rules c.args.block.now c.args.reading (state_with d es) (search rules) c.in-Ok-Some.stored (search rules) (search rules) ∙ ap (λ v. stays v (state_with d es)) (search rules)) c.in-Ok-Some.ensures.value) (λ e. absurd (other-not-fault _ _ (sym c.other_bytes.ensures ∙ e)))
+    (told-map d.held (λ es k. compare-other d.rules c.args.block.now c.args.reading (state_with d es) (search rules) c.in-Ok-Some.stored (search rules) (search rules) ∙ ap (λ v. stays v (state_with d es)) (search rules)) c.in-Ok-Some.ensures.value) (λ e. absurd (other-not-fault _ _ (sym c.other_bytes.ensures.answer ∙ e)))
 
 pub returns-in-Ok-clause-line : goal.returns-in-Ok-clause-line
 returns-in-Ok-clause-line g c =
