@@ -1,5 +1,5 @@
 -- A normal form whose numbers are small is good.
--- Laws: `normal-good`.
+-- Laws: `whole_join`, `line_locators`, `normal-good`.
 use Rattle.std.proofs.Common.{◌≡◌, ℕ, ◌+◌, ◌-◌, ◌≤◌, ◌<◌, Bool, true, false, ◌&&◌, cond, eqb, leb, ltb, List, [], ◌∷◌, ◌++◌, length, Option, Some, None, map, refl, ap, sym, ◌∙◌, arith, append_assoc, length-append}
 use Rattle.std.specs.Prelude.{codes, fold, is_some, unwrap_or}
 use Rattle.std.specs.List.{list_all, flat_map, slice_split, onto_first}
@@ -83,7 +83,7 @@ stream_joined (a ∷ b ∷ rest) path hn hp =
     let parts = and_parts (eqb a 46 && eqb b 47) (is_path rest) hn in
     and_from (eqb a 46 && eqb b 47) (is_path (rest ++ 47 ∷ path)) parts.0 (path_joined rest path parts.1 hp)
 
-abbrev is_whole_path : List ℕ → Bool
+abbrev pub is_whole_path : List ℕ → Bool
 is_whole_path path = is_stream_name (path_parts path).0 && is_path (path_parts path).1
 
 whole_by : (path : List ℕ) (p : List ℕ × List ℕ) → cut_last path ≡ Some p → is_stream_name p.0 ≡ true → is_path p.1 ≡ true → is_whole_path path ≡ true
@@ -91,7 +91,7 @@ whole_by path p e hd hn =
     ap (λ (o : Option (List ℕ × List ℕ)). is_stream_name (unwrap_or o ([], path)).0 && is_path (unwrap_or o ([], path)).1) e
     ∙ and_from (is_stream_name p.0) (is_path p.1) hd hn
 
-whole_join : (name path : List ℕ) (o : Option (List ℕ × List ℕ)) → cut_last path ≡ o → is_stream_name name ≡ true → is_path path ≡ true → is_whole_path (path_of name path) ≡ true
+pub whole_join : (name path : List ℕ) (o : Option (List ℕ × List ℕ)) → cut_last path ≡ o → is_stream_name name ≡ true → is_path path ≡ true → is_whole_path (path_of name path) ≡ true
 whole_join name path None e hn hp = whole_by (path_of name path) (name, path) (cut_last-at name path e) hn hp
 whole_join name path (Some p) e hn hp =
     let cut = cut_is path p e in
@@ -145,7 +145,7 @@ empty_block : is_locator (codes "d41d8cd98f00b204e9800998ecf8427e+0") ≡ true
 unfolding is_locator size_digits hints is_number cut_before_plus
 empty_block = refl
 
-line_locators : (bs : List (List ℕ)) → list_all is_locator bs ≡ true → (ltb 0 (length (or_empty_block bs)) ≡ true) × (list_all is_locator (or_empty_block bs) ≡ true)
+pub line_locators : (bs : List (List ℕ)) → list_all is_locator bs ≡ true → (ltb 0 (length (or_empty_block bs)) ≡ true) × (list_all is_locator (or_empty_block bs) ≡ true)
 line_locators [] h = (refl, and_from (is_locator (codes "d41d8cd98f00b204e9800998ecf8427e+0")) true empty_block refl)
 line_locators (b ∷ bs) h = (lt-ltb 0 (length (b ∷ bs)) (omega arith), h)
 

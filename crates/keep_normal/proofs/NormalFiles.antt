@@ -1,5 +1,5 @@
 -- A manifest and its normal form have the same files.
--- Laws: `file_paths`, `files-ascending`, `segment_named`, `keys_named`, `ranges-normal`, `normal-normal`.
+-- Laws: `flat_map-flat_map`, `flat_map_none`, `flat_map_same_all`, `file_paths`, `files-ascending`, `segment_named`, `keys_named`, `ranges-normal`, `normal-normal`.
 use Rattle.std.proofs.Common.{◌≡◌, ℕ, ◌+◌, ◌-◌, Bool, true, false, not, ◌&&◌, cond, eqb, ltb, ◌^◌, inl, inr, List, [], ◌∷◌, ◌++◌, length, map, refl, ap, sym, subst, ◌∙◌, arith, append-nil}
 use Rattle.std.specs.Prelude.{codes}
 use Rattle.std.specs.List.{list_all, flat_map, AllByRecursion}
@@ -40,7 +40,7 @@ use Rattle.keep_normal.proofs.OrderedEntries.{at-same}
 
 -- Lists.
 
-flat_map-flat_map : {X Y Z : Type 0} (h : Y → List Z) (f : X → List Y) (xs : List X) → flat_map h (flat_map f xs) ≡ flat_map (λ x. flat_map h (f x)) xs
+pub flat_map-flat_map : {X Y Z : Type 0} (h : Y → List Z) (f : X → List Y) (xs : List X) → flat_map h (flat_map f xs) ≡ flat_map (λ x. flat_map h (f x)) xs
 flat_map-flat_map h f [] = refl
 flat_map-flat_map h f (x ∷ xs) = flat_map-append h (f x) (flat_map f xs) ∙ ap (λ zs. flat_map h (f x) ++ zs) (flat_map-flat_map h f xs)
 
@@ -50,13 +50,13 @@ flat_map_same t f g same (x ∷ xs) h =
     let parts = and_parts (t x) (list_all t xs) h in
     ap (λ ys. ys ++ flat_map f xs) (same x parts.0) ∙ ap (λ ys. g x ++ ys) (flat_map_same t f g same xs parts.1)
 
-flat_map_none : {X Y : Type 0} (t : X → Bool) (f : X → List Y) → ((x : X) → t x ≡ true → f x ≡ []) → (xs : List X) → list_all t xs ≡ true → flat_map f xs ≡ []
+pub flat_map_none : {X Y : Type 0} (t : X → Bool) (f : X → List Y) → ((x : X) → t x ≡ true → f x ≡ []) → (xs : List X) → list_all t xs ≡ true → flat_map f xs ≡ []
 flat_map_none t f none [] h = refl
 flat_map_none t f none (x ∷ xs) h =
     let parts = and_parts (t x) (list_all t xs) h in
     ap (λ ys. ys ++ flat_map f xs) (none x parts.0) ∙ flat_map_none t f none xs parts.1
 
-flat_map_same_all : {X Y : Type 0} (f g : X → List Y) → ((x : X) → f x ≡ g x) → (xs : List X) → flat_map f xs ≡ flat_map g xs
+pub flat_map_same_all : {X Y : Type 0} (f g : X → List Y) → ((x : X) → f x ≡ g x) → (xs : List X) → flat_map f xs ≡ flat_map g xs
 flat_map_same_all f g same xs = flat_map_same (λ x. true) f g (λ x _. same x) xs (all_true xs)
 
 map-map : {X Y Z : Type 0} (h : Y → Z) (f : X → Y) (xs : List X) → map h (map f xs) ≡ map (λ x. h (f x)) xs
