@@ -1,0 +1,10 @@
+pub mod BlockLocators
+pub mod CutPieces
+pub mod FilePlaces
+pub mod KnownBlocks
+pub mod LaidOutFiles
+pub mod LaidSegments
+pub mod Packings
+pub mod PartBytes
+pub mod ReadOn
+pub mod Regrouped

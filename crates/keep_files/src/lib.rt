@@ -1,0 +1,20 @@
+//! Files packed into blocks and a manifest, and unpacked again.
+#![tactic(auto)]
+
+mod blocks;
+mod cutter;
+mod fault;
+mod file;
+mod layout;
+mod packing;
+mod path;
+mod places;
+mod segments;
+#[cfg(test)]
+mod tests;
+mod unpacking;
+
+pub use fault::{PackError, UnpackError};
+pub use file::{FileIn, Packed};
+pub use packing::pack_files;
+pub use unpacking::unpack;
