@@ -1,5 +1,5 @@
 -- The first fault of a list of files, and the map from paths to places.
--- Laws: `fault_name`, `fault_twice`, `fault_none`, `fault_end`, `paths_good`, `has_path`, `entries_more`, `within_more`.
+-- Laws: `fault_name`, `fault_twice`, `fault_none`, `fault_end`, `no_fault`, `paths_good`, `has_path`, `entries_more`, `within_more`.
 use Rattle.std.proofs.Common.{◌≡◌, ℕ, ◌+◌, ◌<◌, ◌≤◌, Bool, true, false, not, ◌&&◌, ◌||◌, cond, ltb, List, [], ◌∷◌, ◌++◌, length, take, drop, get_or, map, Option, Some, None, refl, ap, sym, subst, ◌∙◌, arith}
 use Rattle.std.specs.Prelude.{fold, is_some}
 use Rattle.std.specs.Option.{option_map}
@@ -69,24 +69,21 @@ pub fault_end : (fs : List FileIn) (i : ℕ) (all : Option PackError) → length
 unfolding first_fault
 fault_end fs i all past so_far = so_far ∙ at_drop_all (first_fault (paths (take i fs))) fs i past
 
--- where there is no fault, each path is one
-good_first : (before : List (List ℕ)) (f : FileIn) (later : Option PackError) (b : Bool) → is_path f.path ≡ b → or_else (fault_after before f.path) later ≡ None → (is_path f.path ≡ true) × (later ≡ None)
-good_first before f later true path e = (path, by_twice (list_any (bytes_eq f.path) before) (sym (ap (λ b. or_else (cond (not b) (Some (BadName (length before))) (cond (list_any (bytes_eq f.path) before) (Some (Twice (length before))) None)) later) path) ∙ e))
-  where
-    by_twice : (b : Bool) → or_else (cond b (Some (Twice (length before))) None) later ≡ None → later ≡ None
-    by_twice true e = cc e
-    by_twice false e = e
-good_first before f later false path e = absurd (some_fault (sym (ap (λ b. or_else (cond (not b) (Some (BadName (length before))) (cond (list_any (bytes_eq f.path) before) (Some (Twice (length before))) None)) later) path) ∙ e))
-  where
-    some_fault : Some (BadName (length before)) ≡ None → ⊥
-    some_fault e = cc e
+-- where there is no fault, a path is one and none of those before
+no_fault_by : (n : ℕ) (later : Option PackError) (good twice : Bool) → or_else (cond (not good) (Some (BadName n)) (cond twice (Some (Twice n)) None)) later ≡ None → (good ≡ true) × (twice ≡ false) × (later ≡ None)
+no_fault_by n later true true e = cc e
+no_fault_by n later true false e = (refl, refl, e)
+no_fault_by n later false twice e = cc e
+
+pub no_fault : (before : List (List ℕ)) (path : List ℕ) (later : Option PackError) → or_else (fault_after before path) later ≡ None → (is_path path ≡ true) × (list_any (bytes_eq path) before ≡ false) × (later ≡ None)
+no_fault before path later e = no_fault_by (length before) later (is_path path) (list_any (bytes_eq path) before) e
 
 pub paths_good : (before : List (List ℕ)) (fs : List FileIn) → first_fault before fs ≡ None → list_all (λ (f : FileIn). is_path f.path) fs ≡ true
 unfolding first_fault
 paths_good before [] e = refl
 paths_good before (f ∷ fs) e =
-    let here = good_first before f (first_fault (before ++ f.path ∷ []) fs) (is_path f.path) refl e in
-    and_from (is_path f.path) (list_all (λ (f : FileIn). is_path f.path) fs) here.0 (paths_good (before ++ f.path ∷ []) fs here.1)
+    let here = no_fault before f.path (first_fault (before ++ f.path ∷ []) fs) e in
+    and_from (is_path f.path) (list_all (λ (f : FileIn). is_path f.path) fs) here.0 (paths_good (before ++ f.path ∷ []) fs here.2)
 
 -- The map.
 

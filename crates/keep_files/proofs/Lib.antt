@@ -1,3 +1,4 @@
+pub mod AscendingFiles
 pub mod BlockLocators
 pub mod CutPieces
 pub mod FilePlaces

@@ -1,5 +1,8 @@
 -- What `unpack` returns: the files of a manifest (Arvados), read from blocks that are found by their digests, or the first part that can't be read (this project's own rule).
-use Rattle.std.specs.Prelude.{ℕ, ◌+◌, nat_le, List, [], ◌∷◌, ◌++◌, length, take, drop, Option, None, Some, Result, Ok, Err, Vec, ◌≡◌, if◌then◌else◌}
+use Rattle.std.specs.Prelude.{ℕ, ◌+◌, nat_le, List, [], ◌∷◌, ◌++◌, length, take, drop, Option, None, Some, Result, Ok, Err, Vec, ◌≡◌, Contains, if◌then◌else◌}
+use Rattle.std.specs.List.{find}
+use Rattle.std.specs.Str.{bytes_eq}
+use Rattle.md5.specs.Md5.{md5}
 use denote.Ref.{Bor}
 use Rattle.keep_spec.specs.Locator.{digest}
 use Rattle.keep_spec.specs.Results.{◌>>=◌}
@@ -10,6 +13,14 @@ use Rattle.keep_normal.specs.Files.{files}
 use Rattle.keep_files.specs.declared.file.FileIn.{FileIn}
 use Rattle.keep_files.specs.declared.fault.UnpackError.{UnpackError}
 use Rattle.keep_files.specs.declared.fault.UnpackError.TheVariants.{NoMemory, Missing, Short}
+
+-- no two different blocks have one digest
+abbrev pub HaveOwnDigests : List (List ℕ) → Type 0
+HaveOwnDigests blocks = (a b : List ℕ) → Contains blocks a → Contains blocks b → md5 a ≡ md5 b → a ≡ b
+
+-- what is stored where blocks are: the first of them that has the digest
+abbrev pub stored_in : List (List ℕ) → List ℕ → Option (List ℕ)
+stored_in blocks d = find (λ b. bytes_eq (md5 b) d) blocks
 
 -- the bytes of a part in what is stored under its digest
 abbrev pub part_in : Part → Option (List ℕ) → Result (List ℕ) UnpackError

@@ -5,6 +5,7 @@ mod blocks;
 mod cutter;
 mod fault;
 mod file;
+mod laws;
 mod layout;
 mod packing;
 mod path;
@@ -16,5 +17,6 @@ mod unpacking;
 
 pub use fault::{PackError, UnpackError};
 pub use file::{FileIn, Packed};
+pub use laws::ascending_files_are_the_files;
 pub use packing::pack_files;
 pub use unpacking::unpack;

@@ -4,7 +4,7 @@ ghost use Rattle.md5.specs.Md5.{md5};
 ghost use Rattle.keep_spec.specs.Manifest.{manifest_of};
 ghost use Rattle.keep_files.specs.Layout.{ascending};
 ghost use Rattle.keep_files.specs.Packed.{Packs};
-ghost use Rattle.keep_files.specs.Stored.{unpacking};
+ghost use Rattle.keep_files.specs.Stored.{HaveOwnDigests, stored_in, unpacking};
 
 use crate::fault::PackError;
 use crate::file::{FileIn, Packed};
@@ -23,10 +23,12 @@ pub fn pack_files(alloc: Global, files: &[FileIn], block_size: u32) -> Result<Pa
     requires most { block_size ≤ 67108864 }
     ensures packed { Packs result block_size files.now }
 
-    // Unpacked from any store that has each block under its digest, the text gives the files in order of their paths. There is such a
-    // store just where no two of the blocks have one digest.
+    // From any store that has each block under its digest, and so from the blocks alone where no two of them have one digest, the text is
+    // unpacked to the files in order of their paths.
     ensures unpacked { IfOk result (λ p. (stored : List ℕ → Option (List ℕ)) → All (λ b. stored (md5 b) ≡ Some b) p.blocks
         → option_map (λ m. unpacking m stored) (manifest_of p.text) ≡ Some (Ok (ascending files.now))) }
+    ensures unpacked_alone { IfOk result (λ p. HaveOwnDigests p.blocks
+        → option_map (λ m. unpacking m (stored_in p.blocks)) (manifest_of p.text) ≡ Some (Ok (ascending files.now))) }
 {
     let places = places_of(alloc, files)?;
     let directories = by_directory(alloc, places)?;

@@ -7,9 +7,10 @@ use Rattle.keep_spec.specs.declared.manifest.Stream.{Stream}
 use Rattle.keep_normal.specs.Normal.{normal}
 use Rattle.keep_files.specs.Layout.{directories, laid_out, blocks_of}
 use Rattle.keep_files.specs.Places.{group_at, are_within}
-use Rattle.keep_files.specs.Stored.{unpacking}
+use Rattle.keep_files.specs.Stored.{stored_in, unpacking}
 use Rattle.keep_files.specs.declared.file.FileIn.{FileIn}
 use Rattle.keep_files.specs.declared.file.Packed.{Packed}
+use Rattle.keep_files.proofs.AscendingFiles.{found_there}
 use Rattle.keep_files.proofs.FilePlaces.{paths_good}
 use Rattle.keep_files.proofs.LaidOutFiles.{ascending-keyed, laid-good}
 use Rattle.keep_files.proofs.Packings.{directories_at, lines_at, pieces_at, small_at, within_at, text_unpacked}
@@ -65,3 +66,6 @@ returns-clause-unpacked c =
     λ stored held.
     ap (option_map (λ m. unpacking m stored)) c.in_ok-text.ensures.read_again
     ∙ ap Some (text_unpacked stored n fs c.of-2.result c.in_ok-normal.normal (omega (arith, c.requires.least)) (omega (arith, c.requires.most)) paths good blocks held is)
+
+pub returns-clause-unpacked_alone : goal.returns-clause-unpacked_alone
+returns-clause-unpacked_alone c = λ own. returns-clause-unpacked c (stored_in c.of-2.result) (found_there c.of-2.result own)
