@@ -1,11 +1,13 @@
 -- What the plan promises, without a step of any machine: the safety of blocks rests on these.
-use Rattle.std.specs.Prelude.{◌≡◌, ◌≤◌, ◌<◌, ℕ, List, [], length, Some, false}
+use Rattle.std.specs.Prelude.{◌≡◌, ◌≤◌, ◌<◌, ℕ, List, [], length, Some, false, slice_get}
+use Rattle.keep_spec.specs.Times.{threshold}
 use Rattle.keep_spec.specs.Config.{Configuration}
 use Rattle.keep_spec.specs.Members.{IsIn, AreDistinct}
 use Rattle.keep_event.specs.Plan.{Gathered, Page, entry_of, holding, holders, is_holder, kept, targets, trash_list, pull_list, wanted_in, gathered_rows}
 use Rattle.keep_event.specs.declared.lists.Entry.{Entry}
 use Rattle.keep_event.specs.declared.lists.TrashItem.{TrashItem}
 use Rattle.keep_event.specs.declared.lists.PullItem.{PullItem}
+use Rattle.keep_event.specs.declared.lists.Lists.{Lists}
 
 -- an entry of a digest stands on a page of the device
 pub record Gives (d : ℕ) (h : List ℕ) (e : Entry) (pages : List Page) : Type 0 where
@@ -55,3 +57,15 @@ pub record FillsGap (c : Configuration) (g : Gathered) (d : ℕ) (x : PullItem) 
 
 abbrev pub PullItemsFillGaps : Type 0
 PullItemsFillGaps = (c : Configuration) (g : Gathered) (d : ℕ) (x : PullItem) → IsIn x (pull_list c g d) → FillsGap c g d x
+
+-- ---- the same of the lists of a plan, device by device
+
+abbrev pub TrashIsOfOthers : Configuration → Gathered → List Lists → Type 0
+TrashIsOfOthers c g lists =
+    (d : ℕ) (l : Lists) (x : TrashItem) → slice_get lists d ≡ Some l → IsIn x l.trash → IsOfOther c g (threshold c.ttl c.skew g.started) d x
+
+abbrev pub TrashLeavesEnough : Configuration → Gathered → List Lists → Type 0
+TrashLeavesEnough c g lists = (d : ℕ) (l : Lists) (x : TrashItem) → slice_get lists d ≡ Some l → IsIn x l.trash → AreEnough c g x.digest
+
+abbrev pub PullFillsGaps : Configuration → Gathered → List Lists → Type 0
+PullFillsGaps c g lists = (d : ℕ) (l : Lists) (x : PullItem) → slice_get lists d ≡ Some l → IsIn x l.pull → FillsGap c g d x

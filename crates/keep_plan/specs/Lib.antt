@@ -1,1 +1,5 @@
 pub mod Laws
+pub mod Mentions
+pub mod Decided
+pub mod Drafted
+pub mod Planned
