@@ -13,6 +13,7 @@ mod locators;
 mod manifests;
 mod names;
 mod orders;
+mod printed;
 mod runs;
 mod signing;
 mod statuses;
@@ -37,6 +38,8 @@ fn file_names(rt: &HostRuntime) -> io::Result<Vec<String>> {
         let name = String::from_str(rt.alloc(), entry?.file_name())?;
         if name.as_str().ends_with(ENDING) {
             names.push(name)?;
+        } else {
+            println!(rt; "{name}: not a file of cases")?;
         }
     }
     names.sort_unstable();
@@ -75,12 +78,18 @@ fn run_file(rt: &HostRuntime, name: &str) -> io::Result<()> {
             println!(rt; "{name}: not a line of a case: {line}")?;
         }
     }
+    let mut has_case = false;
     for part in book.parts() {
         if !part.is_text() {
+            has_case = true;
             run_case(rt, subject_of(name), part)?;
         }
     }
-    Ok(())
+    if has_case {
+        Ok(())
+    } else {
+        println!(rt; "{name}: no case")
+    }
 }
 
 fn main(rt: HostRuntime) -> io::Result<()> {
