@@ -1,7 +1,5 @@
 pub mod Ascending
 pub mod Changes
 pub mod Locators
-mod Padding
-mod Rows
 pub mod Saves
 pub mod Tokens

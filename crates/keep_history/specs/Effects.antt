@@ -24,7 +24,7 @@ use Rattle.keep_history.specs.declared.task.TaskState.{TaskState}
 use Rattle.keep_history.specs.declared.task.TaskState.TheVariants as S
 use Rattle.keep_history.specs.declared.task.Outcome.{Outcome}
 use Rattle.keep_history.specs.declared.task.Outcome.TheVariants as O
-use Rattle.keep_history.specs.Tasks.{Next, asks, ends, next, opened, table_end}
+use Rattle.keep_history.specs.Tasks.{Answered, Next, asks, ends, next, opened, table_end}
 use Rattle.keep_history.specs.Names.{Names, state_of_name, with_name}
 use Rattle.keep_history.specs.Script.{command_of}
 use Rattle.keep_history.specs.Printed.{event_line, table_event_line, end_line}
@@ -93,13 +93,18 @@ made_of a n device q reply = record {
 abbrev pub after_made : Made → Asked → Asked
 after_made m rest = record { made = m ∷ rest.made; state = rest.state; outcome = rest.outcome }
 
--- a task is asked until it ends; its events are numbered from n on. No task asks as often as the first number says.
-unfoldable pub finished : ℕ → Asking → ℕ → State → List DeviceAnswer → Next → Asked
+-- the device's answer, as the task is given it
+abbrev pub answered : ℕ → DeviceAnswer → Answered
+answered n answer = record { tick = n; answer = An.Device answer }
+
+-- a task of devices is asked until it ends; its events are numbered from n on. No task asks as often as the first number says. (The table is asked by `table_effect`.)
+unfoldable pub finished : ℕ → Asking → ℕ → State → List Answered → Next → Asked
 finished turns a n s answers (ends outcome) = record { made = []; state = s; outcome = Some outcome }
-finished zero a n s answers (asks device q) = record { made = []; state = s; outcome = None }
-finished (suc turns) a n s answers (asks device q) =
+finished turns a n s answers (asks (Q.Table q)) = record { made = []; state = s; outcome = None }
+finished zero a n s answers (asks (Q.Device device q)) = record { made = []; state = s; outcome = None }
+finished (suc turns) a n s answers (asks (Q.Device device q)) =
     let reply = reply_to a n s q in
-    let so_far = answers ++ reply.answer ∷ [] in
+    let so_far = answers ++ answered n reply.answer ∷ [] in
     after_made (made_of a n device q reply) (finished turns a (n + 1) reply.state so_far (next a.config a.task so_far))
 
 -- twice on each of 64 devices

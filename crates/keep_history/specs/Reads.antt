@@ -33,7 +33,7 @@ given hash (Some (O.Bytes bytes)) = Some (record { digest = hash; bytes = bytes 
 given hash _ = None
 
 abbrev pub given_by : Configuration → List ℕ → Scene → ℕ → Option TaskState → Option Read
-given_by c failed scene reading (Some (S.Open (T.Get hash) actor)) = given hash (asked_at c failed scene reading (T.Get hash) actor).outcome
+given_by c failed scene reading (Some (S.Open (T.Get devices hash) actor)) = given hash (asked_at c failed scene reading (T.Get devices hash) actor).outcome
 given_by c failed scene reading _ = None
 
 -- what the get that a line finishes returns, where it ends Bytes

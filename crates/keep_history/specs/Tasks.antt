@@ -1,5 +1,7 @@
 -- Tasks: how an opening ends at once or what task it makes, and what a task asks next or how it ends, a function of the task and of the answers so far. The order of the tests is this project's rule.
 use Rattle.std.specs.Prelude.{ℕ, ◌+◌, ◌==◌, ◌||◌, nat_lt, not, filter, List, [], ◌∷◌, ◌++◌, length, Bool, true, false, Option, None, Some, Result, Ok, Err, if◌then◌else◌, codes, option_map, unwrap_or, slice_get}
+use Rattle.std.specs.List.{list_any}
+use Rattle.std.specs.Option.{option_or}
 use Rattle.std.specs.Str.{bytes_eq}
 use Rattle.std.specs.Fmt.{decimal}
 use Rattle.hex.specs.Hex.{encode_lower}
@@ -8,7 +10,7 @@ use Rattle.keep_spec.specs.Sign.{verdict}
 use Rattle.keep_spec.specs.Times.{expiry_at}
 use Rattle.keep_spec.specs.SignedText.{permission_hint}
 use Rattle.keep_spec.specs.Locator.{is_locator, locator_prefix_len, is_empty_block, digest, stripped}
-use Rattle.keep_spec.specs.Config.{Configuration, token_of}
+use Rattle.keep_spec.specs.Config.{Configuration, token_of, devices_of}
 use Rattle.keep_spec.specs.declared.config.Device.{Device}
 use Rattle.keep_spec.specs.declared.token.TokenId.{TokenId}
 use Rattle.keep_spec.specs.declared.unverified.Verified.{Verified}
@@ -23,6 +25,10 @@ use Rattle.keep_event.specs.declared.device.DeviceQuery.{DeviceQuery}
 use Rattle.keep_event.specs.declared.device.DeviceQuery.TheVariants as Q
 use Rattle.keep_event.specs.declared.device.DeviceAnswer.{DeviceAnswer}
 use Rattle.keep_event.specs.declared.device.DeviceAnswer.TheVariants as A
+use Rattle.keep_event.specs.declared.event.Query.{Query}
+use Rattle.keep_event.specs.declared.event.Query.TheVariants as Query
+use Rattle.keep_event.specs.declared.event.Answer.{Answer}
+use Rattle.keep_event.specs.declared.event.Answer.TheVariants as An
 use Rattle.keep_history.specs.declared.task.Opening.{Opening}
 use Rattle.keep_history.specs.declared.task.Opening.TheVariants as Open
 use Rattle.keep_history.specs.declared.task.Task.{Task}
@@ -31,15 +37,12 @@ use Rattle.keep_history.specs.declared.task.Outcome.{Outcome}
 use Rattle.keep_history.specs.declared.task.Outcome.TheVariants as O
 
 -- DEVICES
--- the devices of the one server
-abbrev pub devices : List ℕ
-devices = 0 ∷ []
-
 abbrev pub is_read_only : Configuration → ℕ → Bool
 is_read_only c device = unwrap_or (option_map (λ (d : Device). d.read_only) (slice_get c.devices device)) false
 
-abbrev pub writable : Configuration → List ℕ
-writable c = filter (λ d. not (is_read_only c d)) devices
+-- the devices of a server that take changes, each once, in the order of its mounts
+abbrev pub writable : Configuration → ℕ → List ℕ
+writable c server = filter (λ d. not (is_read_only c d)) (devices_of c server)
 
 -- SIGNED LOCATORS
 -- the second of a time in nanoseconds, and the lifetime of signatures later; what passes 32 bits counts as their last number
@@ -60,13 +63,13 @@ has_other_digest bytes None = false
 has_other_digest bytes (Some hash) = not (bytes_eq (md5 bytes) hash)
 
 -- too long, another digest than the one given, no bytes, no writable device
-abbrev pub put_opened : Configuration → TokenId → List ℕ → List ℕ → Option (List ℕ) → Result Task Outcome
-put_opened c id token bytes hash =
+abbrev pub put_opened : Configuration → ℕ → TokenId → List ℕ → List ℕ → Option (List ℕ) → Result Task Outcome
+put_opened c server id token bytes hash =
     if nat_lt 67108864 (length bytes) then Err O.TooLong
     else if has_other_digest bytes hash then Err (O.HashMismatch (md5 bytes))
     else if length bytes == 0 then Err (O.Stored empty_locator)
-    else if length (writable c) == 0 then Err O.NoRoom
-    else Ok (T.Put token id bytes)
+    else if length (writable c server) == 0 then Err O.NoRoom
+    else Ok (T.Put (writable c server) token id bytes)
 
 -- the digest that a verdict lets a token ask for
 abbrev pub by_verdict : Result Verified Unverified → Result (List ℕ) Outcome
@@ -93,21 +96,24 @@ abbrev pub with_digest : Result (List ℕ) Outcome → (List ℕ → Result Task
 with_digest (Err outcome) make = Err outcome
 with_digest (Ok hash) make = make hash
 
-abbrev pub get_opened : Configuration → TokenId → List ℕ → List ℕ → ℕ → Result Task Outcome
-get_opened c id token locator reading = with_digest (permitted c id token locator reading (O.Bytes [])) (λ hash. Ok (T.Get hash))
+-- a task on these devices, where there are any
+abbrev pub on_any : List ℕ → Task → Result Task Outcome
+on_any devices task = if length devices == 0 then Err O.NotFound else Ok task
 
--- a task that wants a writable device
-abbrev pub where_writable : Configuration → Task → Result Task Outcome
-where_writable c task = if length (writable c) == 0 then Err O.NotFound else Ok task
+-- a device of the server is wanted last
+abbrev pub get_opened : Configuration → ℕ → TokenId → List ℕ → List ℕ → ℕ → Result Task Outcome
+get_opened c server id token locator reading =
+    with_digest (permitted c id token locator reading (O.Bytes [])) (λ hash. on_any (devices_of c server) (T.Get (devices_of c server) hash))
 
 -- as a get; the empty block is touched as it is, and a writable device is wanted last
-abbrev pub touch_opened : Configuration → TokenId → List ℕ → List ℕ → ℕ → Result Task Outcome
-touch_opened c id token locator reading =
-    with_digest (permitted c id token locator reading (O.Touched (stripped locator))) (λ hash. where_writable c (T.Touch token id hash (stripped locator)))
+abbrev pub touch_opened : Configuration → ℕ → TokenId → List ℕ → List ℕ → ℕ → Result Task Outcome
+touch_opened c server id token locator reading =
+    with_digest (permitted c id token locator reading (O.Touched (stripped locator)))
+    (λ hash. on_any (writable c server) (T.Touch (writable c server) token id hash (stripped locator)))
 
 -- the system token alone may bring trashed copies back
-abbrev pub untrash_opened : Configuration → TokenId → List ℕ → Result Task Outcome
-untrash_opened c id hash = if id.number == 0 then where_writable c (T.Untrash hash) else Err O.Forbidden
+abbrev pub untrash_opened : Configuration → ℕ → TokenId → List ℕ → Result Task Outcome
+untrash_opened c server id hash = if id.number == 0 then on_any (writable c server) (T.Untrash (writable c server) hash) else Err O.Forbidden
 
 -- an unknown token comes before all else
 abbrev pub with_token : Option TokenId → (TokenId → Result Task Outcome) → Result Task Outcome
@@ -120,10 +126,10 @@ asks_table q = Ok (T.Table q)
 
 -- the task that an opening makes at a reading, or how it ends at once
 unfoldable pub opened : Configuration → Opening → ℕ → Result Task Outcome
-opened c (Open.Put token server bytes hash) reading = with_token (token_of c token) (λ id. put_opened c id token bytes hash)
-opened c (Open.Get token server locator) reading = with_token (token_of c token) (λ id. get_opened c id token locator reading)
-opened c (Open.Touch token server locator) reading = with_token (token_of c token) (λ id. touch_opened c id token locator reading)
-opened c (Open.Untrash token server hash) reading = with_token (token_of c token) (λ id. untrash_opened c id hash)
+opened c (Open.Put token server bytes hash) reading = with_token (token_of c token) (λ id. put_opened c server id token bytes hash)
+opened c (Open.Get token server locator) reading = with_token (token_of c token) (λ id. get_opened c server id token locator reading)
+opened c (Open.Touch token server locator) reading = with_token (token_of c token) (λ id. touch_opened c server id token locator reading)
+opened c (Open.Untrash token server hash) reading = with_token (token_of c token) (λ id. untrash_opened c server id hash)
 opened c (Open.Restart device) reading = Ok (T.Restart device)
 opened c (Open.Save request) reading = asks_table (TQ.Save request)
 opened c (Open.Update collection preserve request) reading = asks_table (TQ.Update (collection_number c collection) preserve request)
@@ -133,15 +139,71 @@ opened c (Open.Restore token collection) reading = asks_table (TQ.Restore token 
 opened c Open.Sweep reading = asks_table TQ.Sweep
 
 -- QUERIES AND ENDS
--- a task asks a device, or has ended
+-- an answer that a task was given, with the number of its event
+pub record Answered : Type 0 where
+  pub tick : ℕ
+  pub answer : Answer
+
+-- a task asks, or has ended
 pub data Next : Type 0 where
-  asks : ℕ → DeviceQuery → Next
+  asks : Query → Next
   ends : Outcome → Next
 
 abbrev pub ends_or : Option Outcome → Next → Next
 ends_or None next = next
 ends_or (Some o) next = ends o
 
+-- A walk over devices: each in turn is asked the query, until an answer ends the task. After the last, all that they answered says how the task goes on with the answers that are left.
+unfoldable pub walk : DeviceQuery → (Answer → Option Outcome) → (List Answer → List Answered → Next) → List Answer → List ℕ → List Answered → Next
+walk query end after seen [] answers = after seen answers
+walk query end after seen (d ∷ ds) [] = asks (Query.Device d query)
+walk query end after seen (d ∷ ds) (a ∷ answers) = ends_or (end a.answer) (walk query end after (seen ++ a.answer ∷ []) ds answers)
+
+-- the walk's end: by all that was answered in it
+abbrev pub by_all : (List Answer → Outcome) → List Answer → List Answered → Next
+by_all end seen answers = ends (end seen)
+
+-- how a device's answer ends a task, if it does
+abbrev pub on_device : (DeviceAnswer → Option Outcome) → Answer → Option Outcome
+on_device end (An.Device answer) = end answer
+on_device end (An.Table answer) = None
+
+-- WHAT DEVICES ANSWERED
+abbrev pub is_fault : Answer → Bool
+is_fault (An.Device A.StoreFault) = true
+is_fault _ = false
+
+-- the other MD5 that a device found under a digest
+abbrev pub found_in : Answer → Option (List ℕ)
+found_in (An.Device (A.Corrupt found)) = Some found
+found_in _ = None
+
+abbrev pub is_back : Answer → Bool
+is_back (An.Device (A.Back mtime)) = true
+is_back _ = false
+
+abbrev pub is_present : Answer → Bool
+is_present (An.Device (A.Present mtime)) = true
+is_present _ = false
+
+-- whether a store failed
+abbrev pub any_fault : List Answer → Bool
+any_fault answers = list_any is_fault answers
+
+-- the first other MD5 that was found
+abbrev pub first_found : List Answer → Option (List ℕ)
+first_found [] = None
+first_found (a ∷ answers) = option_or (found_in a) (first_found answers)
+
+-- how many trashed copies came back
+abbrev pub copies_back : List Answer → ℕ
+copies_back answers = length (filter is_back answers)
+
+-- whether a device has a replica
+abbrev pub any_present : List Answer → Bool
+any_present answers = list_any is_present answers
+
+-- PUTS
 abbrev pub stored : Configuration → List ℕ → List ℕ → ℕ → Option Outcome
 stored c token bytes mtime = Some (O.Stored (signed_locator c token bytes mtime))
 
@@ -157,52 +219,28 @@ write_end c token bytes (A.Written mtime) = stored c token bytes mtime
 write_end c token bytes A.Collision = Some O.Collision
 write_end c token bytes _ = None
 
-abbrev pub is_fault : DeviceAnswer → Bool
-is_fault A.StoreFault = true
-is_fault _ = false
+-- where no device took the block
+abbrev pub not_written : List Answer → Outcome
+not_written written = if any_fault written then O.StoreFault else O.NoRoom
 
--- a write on each device in turn, until one ends the put
-unfoldable pub writes : Configuration → TokenId → List ℕ → List ℕ → Bool → List ℕ → List DeviceAnswer → Next
-writes c id token bytes fault [] answers = ends (if fault then O.StoreFault else O.NoRoom)
-writes c id token bytes fault (d ∷ ds) [] = asks d (Q.Write bytes (Some id))
-writes c id token bytes fault (d ∷ ds) (a ∷ answers) = ends_or (write_end c token bytes a) (writes c id token bytes (fault || is_fault a) ds answers)
+-- a write on each device
+abbrev pub writes : Configuration → TokenId → List ℕ → List ℕ → List ℕ → List Answer → List Answered → Next
+writes c id token bytes devices compared answers =
+    walk (Q.Write bytes (Some id)) (on_device (write_end c token bytes)) (by_all not_written) [] devices answers
 
--- a comparison on each device in turn, then the writes
-unfoldable pub compares : Configuration → TokenId → List ℕ → List ℕ → List ℕ → List ℕ → List DeviceAnswer → Next
-compares c id token bytes all [] answers = writes c id token bytes false all answers
-compares c id token bytes all (d ∷ ds) [] = asks d (Q.CompareTouch bytes (Some id))
-compares c id token bytes all (d ∷ ds) (a ∷ answers) = ends_or (compare_end c token bytes a) (compares c id token bytes all ds answers)
+-- a comparison on each device, then the writes
+abbrev pub put_next : Configuration → TokenId → List ℕ → List ℕ → List ℕ → List Answered → Next
+put_next c id token bytes devices answers =
+    walk (Q.CompareTouch bytes (Some id)) (on_device (compare_end c token bytes)) (writes c id token bytes devices) [] devices answers
 
--- what has come of the devices that a get asked: nothing, a failed store, or first of all the other MD5 that was found
-pub data Found : Type 0 where
-  nothing : Found
-  a_fault : Found
-  corrupt : List ℕ → Found
-
-abbrev pub found_by : Found → DeviceAnswer → Found
-found_by found (A.Corrupt hash) = corrupt hash
-found_by found A.StoreFault = a_fault
-found_by found _ = found
-
-abbrev pub found_also : Found → DeviceAnswer → Found
-found_also (corrupt hash) a = corrupt hash
-found_also nothing a = found_by nothing a
-found_also a_fault a = found_by a_fault a
-
-abbrev pub fetched_none : Found → Outcome
-fetched_none nothing = O.NotFound
-fetched_none a_fault = O.StoreFault
-fetched_none (corrupt hash) = O.Corrupt hash
-
+-- GETS, TOUCHES, UNTRASHES
 abbrev pub fetch_end : DeviceAnswer → Option Outcome
 fetch_end (A.Block bytes) = Some (O.Bytes bytes)
 fetch_end _ = None
 
--- a fetch from each device in turn, until one has the block
-unfoldable pub fetches : List ℕ → Found → List ℕ → List DeviceAnswer → Next
-fetches hash found [] answers = ends (fetched_none found)
-fetches hash found (d ∷ ds) [] = asks d (Q.Fetch hash)
-fetches hash found (d ∷ ds) (a ∷ answers) = ends_or (fetch_end a) (fetches hash (found_also found a) ds answers)
+-- where no device has the block: the first other MD5 that was found, else a fault, if one came
+abbrev pub not_fetched : List Answer → Outcome
+not_fetched fetched = unwrap_or (option_map O.Corrupt (first_found fetched)) (if any_fault fetched then O.StoreFault else O.NotFound)
 
 -- the locator of a touch: the stripped text of the one given, and a permission by the replica's time
 unfoldable pub touched_locator : Configuration → List ℕ → List ℕ → List ℕ → ℕ → List ℕ
@@ -212,54 +250,23 @@ abbrev pub touch_end : Configuration → List ℕ → List ℕ → List ℕ → 
 touch_end c token hash text (A.Touched mtime) = Some (O.Touched (touched_locator c token hash text mtime))
 touch_end c token hash text _ = None
 
--- a touch on each device in turn, until one has the block
-unfoldable pub touches : Configuration → TokenId → List ℕ → List ℕ → List ℕ → Bool → List ℕ → List DeviceAnswer → Next
-touches c id token hash text fault [] answers = ends (if fault then O.StoreFault else O.NotFound)
-touches c id token hash text fault (d ∷ ds) [] = asks d (Q.Touch hash (Some id))
-touches c id token hash text fault (d ∷ ds) (a ∷ answers) =
-    ends_or (touch_end c token hash text a) (touches c id token hash text (fault || is_fault a) ds answers)
+-- where no device has the block
+abbrev pub not_touched : List Answer → Outcome
+not_touched touched = if any_fault touched then O.StoreFault else O.NotFound
 
--- what has come of the devices on which an untrash was asked: how many brought a copy back, whether a store failed, and whether a replica was there
-pub record Brought : Type 0 where
-  pub back : ℕ
-  pub fault : Bool
-  pub present : Bool
+-- no answer ends an untrash before every device was asked
+abbrev pub no_end : DeviceAnswer → Option Outcome
+no_end answer = None
 
-abbrev pub brought_none : Brought
-brought_none = record { back = 0; fault = false; present = false }
-
-abbrev pub brought_also : Brought → DeviceAnswer → Brought
-brought_also b (A.Back mtime) = record { back = b.back + 1; fault = b.fault; present = b.present }
-brought_also b A.StoreFault = record { back = b.back; fault = true; present = b.present }
-brought_also b (A.Present mtime) = record { back = b.back; fault = b.fault; present = true }
-brought_also b _ = b
-
-abbrev pub brought_end : Brought → Outcome
-brought_end b =
-    if nat_lt 0 b.back then O.Untrashed b.back
-    else if b.fault then O.StoreFault
-    else if b.present then O.Untrashed 0
+-- copies that came back, else a fault, if one came, else a replica, if a device has one
+abbrev pub untrashed : List Answer → Outcome
+untrashed answers =
+    if nat_lt 0 (copies_back answers) then O.Untrashed (copies_back answers)
+    else if any_fault answers then O.StoreFault
+    else if any_present answers then O.Untrashed 0
     else O.NotFound
 
--- an untrash on each device in turn
-unfoldable pub untrashes : List ℕ → Brought → List ℕ → List DeviceAnswer → Next
-untrashes hash b [] answers = ends (brought_end b)
-untrashes hash b (d ∷ ds) [] = asks d (Q.Untrash hash)
-untrashes hash b (d ∷ ds) (a ∷ answers) = untrashes hash (brought_also b a) ds answers
-
-unfoldable pub restarts : ℕ → List DeviceAnswer → Next
-restarts device [] = asks device Q.Restart
-restarts device (a ∷ answers) = ends O.Restarted
-
--- the next query to a device of a task after these answers, or its end; the table is asked otherwise
-unfoldable pub next : Configuration → Task → List DeviceAnswer → Next
-next c (T.Put token id block) answers = compares c id token block (writable c) (writable c) answers
-next c (T.Get hash) answers = fetches hash nothing devices answers
-next c (T.Touch token id hash text) answers = touches c id token hash text false (writable c) answers
-next c (T.Untrash hash) answers = untrashes hash brought_none (writable c) answers
-next c (T.Restart device) answers = restarts device answers
-next c (T.Table q) answers = ends O.NotFound
-
+-- THE TABLE
 -- the token of a query of the table that has one
 abbrev pub token_of_query : TableQuery → List ℕ
 token_of_query (TQ.Read token collection version) = token
@@ -278,3 +285,27 @@ table_end c q (TA.Saved n version portable) = O.Saved (collection_uuid c n) vers
 table_end c q (TA.Updated n version portable) = O.Updated (collection_uuid c n) version portable
 table_end c q (TA.Row n version expiry want trash_at text) = O.Row version want trash_at (signed_row c (token_of_query q) expiry text)
 table_end c q answer = end_as_answered answer
+
+-- ONE QUERY
+-- one query, and the end that its answer makes
+abbrev pub one : Query → (Answer → Outcome) → List Answered → Next
+one query end [] = asks query
+one query end (a ∷ answers) = ends (end a.answer)
+
+abbrev pub restarted : Answer → Outcome
+restarted answer = O.Restarted
+
+-- a device's answer says nothing of what the table was asked
+abbrev pub table_end_of : Configuration → TableQuery → Answer → Outcome
+table_end_of c q (An.Table answer) = table_end c q answer
+table_end_of c q (An.Device answer) = O.NotFound
+
+-- THE NEXT QUERY
+-- the next query of a task after these answers, or its end
+unfoldable pub next : Configuration → Task → List Answered → Next
+next c (T.Put devices token id block) answers = put_next c id token block devices answers
+next c (T.Get devices hash) answers = walk (Q.Fetch hash) (on_device fetch_end) (by_all not_fetched) [] devices answers
+next c (T.Touch devices token id hash text) answers = walk (Q.Touch hash (Some id)) (on_device (touch_end c token hash text)) (by_all not_touched) [] devices answers
+next c (T.Untrash devices hash) answers = walk (Q.Untrash hash) (on_device no_end) (by_all untrashed) [] devices answers
+next c (T.Restart device) answers = one (Query.Device device Q.Restart) restarted answers
+next c (T.Table q) answers = one (Query.Table q) (table_end_of c q) answers

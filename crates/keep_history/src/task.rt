@@ -1,6 +1,6 @@
 // Tasks: what opens them, what they go on with, how they end, and the script lines that name them.
 use keep_event::{Block, SaveRequest, TableAnswer, TableQuery};
-use keep_spec::{Bytes, Digest, Portable, TokenId};
+use keep_spec::{Bytes, Digest, Items, Portable, TokenId};
 
 /// What a task is opened with. Servers and devices are named by their numbers in the configuration, from 0; a collection by the text of its UUID.
 /// The rules of each opening and of its end are this project's own.
@@ -67,21 +67,25 @@ pub enum Opening {
     Sweep,
 }
 
-/// A task that its opening did not end, with what its queries need.
+/// A task that its opening did not end, with what its queries need. `devices` are those that it asks, by their numbers in the configuration, in the order of
+/// their server's mounts, each once.
 #[derive(Drop, Debug)]
 pub enum Task {
     /// Compares on each writable device, then writes on each, until one takes the block.
     Put {
+        devices: Items<u32>,
         token: Bytes,
         id: TokenId,
         block: Block,
     },
     /// Fetches from each device until one has the block.
     Get {
+        devices: Items<u32>,
         digest: Digest,
     },
     /// Touches on each writable device until one has the block. `stripped` is the locator without its hints.
     Touch {
+        devices: Items<u32>,
         token: Bytes,
         id: TokenId,
         digest: Digest,
@@ -89,6 +93,7 @@ pub enum Task {
     },
     /// Untrashes on each writable device.
     Untrash {
+        devices: Items<u32>,
         digest: Digest,
     },
     /// Restarts the device.

@@ -1,5 +1,7 @@
 -- Open tasks stay in the form that may be asked: `opened-askable` for what an opening makes, `open-askable`, `ended-askable` and `gone-askable` when a name is set, `found-askable` for a name that is looked up.
-use Rattle.std.proofs.Common.{◌≡◌, ℕ, List, Option, None, Some, IfSome, Ok, subst}
+use Rattle.std.proofs.Common.{◌≡◌, ◌<◌, ℕ, List, length, Option, None, Some, IfSome, Ok, subst}
+use Rattle.std.specs.List.{AllByRecursion}
+use Rattle.std.proofs.lemmas.List.Elements.{recursion_from_All}
 use Rattle.keep_spec.specs.Config.{Configuration}
 use Rattle.keep_history.specs.declared.task.Opening.{Opening}
 use Rattle.keep_history.specs.declared.task.Opening.TheVariants as Open
@@ -13,19 +15,28 @@ use Rattle.keep_history.specs.Script.{HasTimes}
 use Rattle.keep_history.specs.Tasks.{opened}
 use Rattle.keep_run.specs.Askable.{IsAskable, IsAskableState, AreAskable}
 use Rattle.keep_run.specs.Commands.{open_task_of}
+use Rattle.keep_tasks.specs.Openings.{HasDevicesBelow, walked}
+use Rattle.keep_run.proofs.Devices.{one-device, one-writable}
 use Rattle.keep_run.proofs.Names.{after-end, named, looked-up}
 use Rattle.keep_run.proofs.Openings.{IsMade, OkHas, opened-has}
 
-made : (c : Configuration) (opening : Opening) → HasTimes opening → IsMade IsAskable c opening
-made c (Open.Put token server bytes hash) h = λ id. tt
-made c (Open.Get token server locator) h = λ hash. tt
-made c (Open.Touch token server locator) h = λ id hash. tt
-made c (Open.Trash token collection trash_at delete_at) h = h
-made c _ h = tt
+-- it may be asked, where its devices are below 1
+abbrev IsAskableBelow : Task → Type 0
+IsAskableBelow task = AllByRecursion (λ d. d < 1) (walked task) → IsAskable task
+
+made : (c : Configuration) (opening : Opening) → HasTimes opening → IsMade IsAskableBelow c opening
+made c (Open.Put token server bytes hash) h = λ id some below. one-writable c server some below
+made c (Open.Get token server locator) h = λ hash some below. one-device c server some below
+made c (Open.Touch token server locator) h = λ id hash some below. one-writable c server some below
+made c (Open.Untrash token server hash) h = λ some below. one-writable c server some below
+made c (Open.Trash token collection trash_at delete_at) h = λ below. h
+made c _ h = λ below. tt
 
 -- an opening of a line makes a task that may be asked
-pub opened-askable : (c : Configuration) (opening : Opening) (reading : ℕ) (task : Task) → HasTimes opening → opened c opening reading ≡ Ok task → IsAskable task
-opened-askable c opening reading task h e = subst (OkHas IsAskable) e (opened-has IsAskable c opening reading (made c opening h))
+pub opened-askable : (c : Configuration) (opening : Opening) (reading : ℕ) (task : Task) → HasTimes opening → opened c opening reading ≡ Ok task → length c.devices ≡ 1 → HasDevicesBelow (length c.devices) (Ok task) → IsAskable task
+opened-askable c opening reading task h e one below =
+    let made_it : IsAskableBelow task = subst (OkHas IsAskableBelow) e (opened-has IsAskableBelow c opening reading (made c opening h)) in
+    made_it (recursion_from_All (λ d. d < 1) (walked task) (rw one at below))
 
 pub open-askable : (name : List ℕ) (task : Task) (actor : ℕ) (names : Names) → IsAskable task → AreAskable names → AreAskable (with_name name (S.Open task actor) names)
 open-askable name task actor names p h = named IsAskableState name (S.Open task actor) names p h

@@ -1,6 +1,7 @@
 -- The bytes that gets return were put: `told-reads`.
 use Rattle.std.proofs.Common.{◌≡◌, ℕ, zero, suc, ◌+◌, Bool, true, false, List, [], ◌∷◌, ◌++◌, length, Option, None, Some, IfSome, Result, Ok, Err, inl, inr, refl, ◌∙◌, ap, option_and_then, arith}
-use Rattle.std.specs.Prelude.{⊤}
+use Rattle.std.specs.Prelude.{⊤, unwrap_or, option_map, if◌then◌else◌}
+use Rattle.std.specs.List.{AllByRecursion}
 use Rattle.std.proofs.lemmas.Bool.{and_parts, eqb-true}
 use Rattle.std.proofs.lemmas.Slice.Eq.{bytes_eq-Decides}
 use Rattle.std.specs.Str.{bytes_eq}
@@ -13,29 +14,32 @@ use Rattle.keep_event.specs.Device as machine
 use Rattle.keep_event.specs.Device.{State, Reply}
 use Rattle.keep_event.specs.declared.names.Name.{Name}
 use Rattle.keep_event.specs.declared.names.Stored.{Stored}
-use Rattle.keep_event.specs.declared.device.DeviceAnswer.{DeviceAnswer}
+use Rattle.keep_event.specs.declared.device.DeviceAnswer.TheVariants as A
+use Rattle.keep_event.specs.declared.device.DeviceQuery.{DeviceQuery}
 use Rattle.keep_event.specs.declared.device.DeviceQuery.TheVariants as Q
+use Rattle.keep_event.specs.declared.event.Answer.{Answer}
+use Rattle.keep_event.specs.declared.event.Answer.TheVariants as An
+use Rattle.keep_event.specs.declared.event.Query.TheVariants as Query
 use Rattle.keep_history.specs.declared.task.Command.{Command}
 use Rattle.keep_history.specs.declared.task.Command.TheVariants as C
 use Rattle.keep_history.specs.declared.task.Opening.{Opening}
 use Rattle.keep_history.specs.declared.task.Opening.TheVariants as Open
 use Rattle.keep_history.specs.declared.task.Outcome.{Outcome}
+use Rattle.keep_history.specs.declared.task.Outcome.TheVariants as O
 use Rattle.keep_history.specs.declared.task.Task.{Task}
 use Rattle.keep_history.specs.declared.task.Task.TheVariants as T
 use Rattle.keep_history.specs.declared.task.TaskState.{TaskState}
 use Rattle.keep_history.specs.declared.task.TaskState.TheVariants as S
-use Rattle.keep_history.specs.Effects.{Scene, Effect, Asking, asked, fails_at, finished, reply_to, asked_at, rules_of, effect_of_line, effect_of_command, finish_state, finish_effect, task_effect, open_effect, names_after, state_after}
+use Rattle.keep_history.specs.Effects.{Scene, Effect, Asking, answered, asked, fails_at, finished, reply_to, asked_at, rules_of, effect_of_line, effect_of_command, finish_state, finish_effect, task_effect, open_effect, names_after, state_after}
 use Rattle.keep_history.specs.Names.{Names, state_of_name}
 use Rattle.keep_history.specs.Reads.{bytes_put, Read, given, given_by, read_by, IsAmong, IsOfPut, AreOfPuts, AreOfPutsUnder, ReadsOfPieces, ReadsAreOfPuts}
 use Rattle.keep_history.specs.Run.{config_for, is_empty, at_start}
 use Rattle.keep_history.specs.Script.{command_of}
-use Rattle.keep_history.specs.Tasks.{Next, asks, ends, ends_or, next, opened, compares, writes, fetches, touches, untrashes, restarts, writable, compare_end, write_end, fetch_end, touch_end, table_end, Found, found_also, Brought, brought_also}
-use Rattle.keep_run.specs.Asked.{fetch_outcome}
+use Rattle.keep_history.specs.Tasks.{Answered, Next, asks, ends, ends_or, next, opened, walk, on_device, by_all, writes, compare_end, write_end, fetch_end, touch_end, no_end, not_written, not_fetched, not_touched, untrashed, first_found, any_fault, table_end}
 use Rattle.keep_run.specs.Runs.{BothTold}
 use Rattle.keep_run.proofs.Held.{HoldAll, BringsAll, all-found, step-all}
 use Rattle.keep_event.specs.Requests.{table_line}
 use Rattle.keep_run.proofs.Names.{AllNames, after-end, named, looked-up}
-use Rattle.keep_run.proofs.Tasks.{single-asks, single-ends}
 use Rattle.keep_run.proofs.Openings.{IsMade, OkHas, opened-has}
 
 module _ (P : List ℕ → Type 0) where
@@ -43,79 +47,60 @@ module _ (P : List ℕ → Type 0) where
 
   -- the block that a task brings has P
   abbrev TaskBrings : Task → Type 0
-  TaskBrings (T.Put token id block) = P block
+  TaskBrings (T.Put devices token id block) = P block
   TaskBrings _ = ⊤
 
+  -- what devices are asked brings blocks that have P
   abbrev NextBrings : Next → Type 0
-  NextBrings (asks d q) = BringsAll P q
+  NextBrings (asks (Query.Device d q)) = BringsAll P q
+  NextBrings (asks (Query.Table q)) = ⊤
   NextBrings (ends outcome) = ⊤
 
   ends-or-brings : (o : Option Outcome) (n : Next) → NextBrings n → NextBrings (ends_or o n)
   ends-or-brings None n h = h
   ends-or-brings (Some o) n h = tt
 
-  module _ (c : Configuration) (id : TokenId) (token bytes : List ℕ) (p : P bytes) where
-    writes-bring : (fault : Bool) (ds : List ℕ) (answers : List DeviceAnswer) → NextBrings (writes c id token bytes fault ds answers)
-    unfolding writes
-    writes-bring fault [] answers = tt
-    writes-bring fault (d ∷ ds) [] = p
-    writes-bring fault (d ∷ ds) (a ∷ answers) = ends-or-brings (write_end c token bytes a) _ (writes-bring _ ds answers)
+  walk-brings : (q : DeviceQuery) (end : Answer → Option Outcome) (after : List Answer → List Answered → Next) → BringsAll P q → ((seen : List Answer) (answers : List Answered) → NextBrings (after seen answers)) → (seen : List Answer) (ds : List ℕ) (answers : List Answered) → NextBrings (walk q end after seen ds answers)
+  unfolding walk
+  walk-brings q end after p h seen [] answers = h seen answers
+  walk-brings q end after p h seen (d ∷ ds) [] = p
+  walk-brings q end after p h seen (d ∷ ds) (a ∷ answers) = ends-or-brings (end a.answer) _ (walk-brings q end after p h (seen ++ a.answer ∷ []) ds answers)
 
-    compares-bring : (all ds : List ℕ) (answers : List DeviceAnswer) → NextBrings (compares c id token bytes all ds answers)
-    unfolding compares
-    compares-bring all [] answers = writes-bring false all answers
-    compares-bring all (d ∷ ds) [] = p
-    compares-bring all (d ∷ ds) (a ∷ answers) = ends-or-brings (compare_end c token bytes a) _ (compares-bring all ds answers)
-
-  fetches-bring : (hash : List ℕ) (found : Found) (ds : List ℕ) (answers : List DeviceAnswer) → NextBrings (fetches hash found ds answers)
-  unfolding fetches
-  fetches-bring hash found [] answers = tt
-  fetches-bring hash found (d ∷ ds) [] = tt
-  fetches-bring hash found (d ∷ ds) (a ∷ answers) = ends-or-brings (fetch_end a) _ (fetches-bring hash (found_also found a) ds answers)
-
-  touches-bring : (c : Configuration) (id : TokenId) (token hash text : List ℕ) (fault : Bool) (ds : List ℕ) (answers : List DeviceAnswer) → NextBrings (touches c id token hash text fault ds answers)
-  unfolding touches
-  touches-bring c id token hash text fault [] answers = tt
-  touches-bring c id token hash text fault (d ∷ ds) [] = tt
-  touches-bring c id token hash text fault (d ∷ ds) (a ∷ answers) = ends-or-brings (touch_end c token hash text a) _ (touches-bring c id token hash text _ ds answers)
-
-  untrashes-bring : (hash : List ℕ) (b : Brought) (ds : List ℕ) (answers : List DeviceAnswer) → NextBrings (untrashes hash b ds answers)
-  unfolding untrashes
-  untrashes-bring hash b [] answers = tt
-  untrashes-bring hash b (d ∷ ds) [] = tt
-  untrashes-bring hash b (d ∷ ds) (a ∷ answers) = untrashes-bring hash (brought_also b a) ds answers
-
-  restarts-bring : (device : ℕ) (answers : List DeviceAnswer) → NextBrings (restarts device answers)
-  unfolding restarts
-  restarts-bring device [] = tt
-  restarts-bring device (a ∷ answers) = tt
-
-  next-brings : (c : Configuration) (task : Task) (answers : List DeviceAnswer) → TaskBrings task → NextBrings (next c task answers)
+  next-brings : (c : Configuration) (task : Task) (answers : List Answered) → TaskBrings task → NextBrings (next c task answers)
   unfolding next
-  next-brings c (T.Put token id block) answers p = compares-bring c id token block p (writable c) (writable c) answers
-  next-brings c (T.Get hash) answers p = fetches-bring hash _ _ answers
-  next-brings c (T.Touch token id hash text) answers p = touches-bring c id token hash text false (writable c) answers
-  next-brings c (T.Untrash hash) answers p = untrashes-bring hash _ (writable c) answers
-  next-brings c (T.Restart device) answers p = restarts-bring device answers
-  next-brings c (T.Table q) answers p = tt
+  next-brings c (T.Put devices token id block) answers p =
+      walk-brings (Q.CompareTouch block (Some id)) (on_device (compare_end c token block)) (writes c id token block devices) p
+      (λ seen rest. walk-brings (Q.Write block (Some id)) (on_device (write_end c token block)) (by_all not_written) p (λ s r. tt) [] devices rest) [] devices answers
+  next-brings c (T.Get devices hash) answers p = walk-brings (Q.Fetch hash) (on_device fetch_end) (by_all not_fetched) tt (λ s r. tt) [] devices answers
+  next-brings c (T.Touch devices token id hash text) answers p = walk-brings (Q.Touch hash (Some id)) (on_device (touch_end c token hash text)) (by_all not_touched) tt (λ s r. tt) [] devices answers
+  next-brings c (T.Untrash devices hash) answers p = walk-brings (Q.Untrash hash) (on_device no_end) (by_all untrashed) tt (λ s r. tt) [] devices answers
+  next-brings c (T.Restart device) [] p = tt
+  next-brings c (T.Restart device) (a ∷ answers) p = tt
+  next-brings c (T.Table q) [] p = tt
+  next-brings c (T.Table q) (a ∷ answers) p = tt
 
   asked-holds : (fails : Bool) (s : State) (r : Reply) → HoldAll P s.held → HoldAll P r.state.held → HoldAll P (asked fails s r).state.held
   asked-holds true s r h k = h
   asked-holds false s r h k = k
 
-  finished-holds : (turns : ℕ) (a : Asking) (n : ℕ) (s : State) (answers : List DeviceAnswer) (nx : Next) → TaskBrings a.task → HoldAll P s.held → NextBrings nx → HoldAll P (finished turns a n s answers nx).state.held
+  finished-holds : (turns : ℕ) (a : Asking) (n : ℕ) (s : State) (answers : List Answered) (nx : Next) → TaskBrings a.task → HoldAll P s.held → NextBrings nx → HoldAll P (finished turns a n s answers nx).state.held
   unfolding finished
   finished-holds turns a n s answers (ends outcome) t h b = ended turns
     where
       ended : (turns : ℕ) → HoldAll P (finished turns a n s answers (ends outcome)).state.held
       ended zero = h
       ended (suc k) = h
-  finished-holds zero a n s answers (asks d q) t h b = h
-  finished-holds (suc turns) a n s answers (asks d q) t h b =
+  finished-holds turns a n s answers (asks (Query.Table q)) t h b = ended turns
+    where
+      ended : (turns : ℕ) → HoldAll P (finished turns a n s answers (asks (Query.Table q))).state.held
+      ended zero = h
+      ended (suc k) = h
+  finished-holds zero a n s answers (asks (Query.Device d q)) t h b = h
+  finished-holds (suc turns) a n s answers (asks (Query.Device d q)) t h b =
       let r = reply_to a n s q in
-      finished-holds turns a (n + 1) r.state (answers ++ r.answer ∷ []) (next a.config a.task (answers ++ r.answer ∷ [])) t
+      finished-holds turns a (n + 1) r.state (answers ++ answered n r.answer ∷ []) (next a.config a.task (answers ++ answered n r.answer ∷ [])) t
       (asked-holds (fails_at a.failed n q) s _ h (step-all P (rules_of a.config) a.reading s h q b))
-      (next-brings a.config a.task (answers ++ r.answer ∷ []) t)
+      (next-brings a.config a.task (answers ++ answered n r.answer ∷ []) t)
 
   -- ---- names
 
@@ -133,35 +118,85 @@ module _ (P : List ℕ → Type 0) where
   names-after-bring name None names h = h
   names-after-bring name (Some o) names h = named StateBrings name (state_after o) names (after-brings o) h
 
-  -- ---- what a fetch returns
+  -- ---- what a get returns
 
   abbrev is-of : List ℕ → Option Read → Type 0
   is-of hash o = IfSome o (λ r. (md5 r.bytes ≡ r.digest) × P r.bytes)
 
-  fetched-given : (hash : List ℕ) (s : State) (o : Option Stored) → IfSome o (λ r. P r.bytes) → is-of hash (given hash (Some (fetch_outcome (machine.fetched hash s o).answer)))
-  fetched-given hash s None p = tt
-  fetched-given hash s (Some r) p = by (bytes_eq (md5 r.bytes) hash) refl
+  -- the bytes of an answer have the digest, and P
+  abbrev Fetches : List ℕ → Answer → Type 0
+  Fetches hash (An.Device (A.Block bytes)) = (md5 bytes ≡ hash) × P bytes
+  Fetches hash _ = ⊤
+
+  fetched-has : (hash : List ℕ) (s : State) (o : Option Stored) → IfSome o (λ r. P r.bytes) → Fetches hash (An.Device (machine.fetched hash s o).answer)
+  fetched-has hash s None p = tt
+  fetched-has hash s (Some r) p = by (bytes_eq (md5 r.bytes) hash) refl
     where
-      by : (b : Bool) → bytes_eq (md5 r.bytes) hash ≡ b → is-of hash (given hash (Some (fetch_outcome (machine.fetched hash s (Some r)).answer)))
+      by : (b : Bool) → bytes_eq (md5 r.bytes) hash ≡ b → Fetches hash (An.Device (machine.fetched hash s (Some r)).answer)
       by true e = rw e ((bytes_eq-Decides (md5 r.bytes) hash).0 e, p)
       by false e = rw e tt
 
-  reply-given : (hash : List ℕ) (fails : Bool) (s : State) → HoldAll P s.held → is-of hash (given hash (Some (fetch_outcome (asked fails s (machine.fetch hash s)).answer)))
+  reply-has : (hash : List ℕ) (fails : Bool) (s : State) → HoldAll P s.held → Fetches hash (An.Device (asked fails s (machine.fetch hash s)).answer)
   unfolding machine.fetch
-  reply-given hash true s h = tt
-  reply-given hash false s h = fetched-given hash s (machine.replica_of hash s) (all-found P (machine.replica hash) s.held h)
+  reply-has hash true s h = tt
+  reply-has hash false s h = fetched-has hash s (machine.replica_of hash s) (all-found P (machine.replica hash) s.held h)
 
-  -- what a finished get of the one device returns
-  finished-given : (turns : ℕ) (a : Asking) (n : ℕ) (s : State) (hash : List ℕ) → a.task ≡ T.Get hash → HoldAll P s.held → is-of hash (given hash (finished (suc (suc turns)) a n s [] (next a.config (T.Get hash) [])).outcome)
+  -- a get asks for its digest, and ends with bytes that have it
+  abbrev IsGet : List ℕ → Next → Type 0
+  IsGet hash (ends outcome) = is-of hash (given hash (Some outcome))
+  IsGet hash (asks (Query.Device d q)) = q ≡ Q.Fetch hash
+  IsGet hash (asks (Query.Table q)) = ⊥
+
+  not-given : (hash : List ℕ) (o : Option (List ℕ)) (fault : Bool) → is-of hash (given hash (Some (unwrap_or (option_map O.Corrupt o) (if fault then O.StoreFault else O.NotFound))))
+  not-given hash (Some found) fault = tt
+  not-given hash None true = tt
+  not-given hash None false = tt
+
+  fetch-goes : (hash : List ℕ) (a : Answer) (nx : Next) → Fetches hash a → IsGet hash nx → IsGet hash (ends_or (on_device fetch_end a) nx)
+  fetch-goes hash (An.Device (A.Block bytes)) nx f g = f
+  fetch-goes hash (An.Device _) nx f g = g
+  fetch-goes hash (An.Table t) nx f g = g
+
+  walk-gets : (hash : List ℕ) (seen : List Answer) (ds : List ℕ) (answers : List Answered) → AllByRecursion (λ a. Fetches hash a.answer) answers → IsGet hash (walk (Q.Fetch hash) (on_device fetch_end) (by_all not_fetched) seen ds answers)
+  unfolding walk
+  walk-gets hash seen [] answers f = not-given hash (first_found seen) (any_fault seen)
+  walk-gets hash seen (d ∷ ds) [] f = refl
+  walk-gets hash seen (d ∷ ds) (a ∷ answers) f = fetch-goes hash a.answer _ f.0 (walk-gets hash (seen ++ a.answer ∷ []) ds answers f.1)
+
+  next-gets : (c : Configuration) (task : Task) (devices hash : List ℕ) (answers : List Answered) → task ≡ T.Get devices hash → AllByRecursion (λ a. Fetches hash a.answer) answers → IsGet hash (next c task answers)
+  unfolding next
+  next-gets c task devices hash answers e f = rw e (walk-gets hash [] devices answers f)
+
+  fetches-more : (hash : List ℕ) (answers : List Answered) (a : Answered) → AllByRecursion (λ a. Fetches hash a.answer) answers → Fetches hash a.answer → AllByRecursion (λ a. Fetches hash a.answer) (answers ++ a ∷ [])
+  fetches-more hash [] a f g = (g, tt)
+  fetches-more hash (x ∷ xs) a f g = (f.0, fetches-more hash xs a f.1 g)
+
+  fetch-reply : (a : Asking) (n : ℕ) (s : State) (hash : List ℕ) (q : DeviceQuery) → q ≡ Q.Fetch hash → HoldAll P s.held → Fetches hash (An.Device (reply_to a n s q).answer)
+  fetch-reply a n s hash q e h = rw e (reply-has hash (fails_at a.failed n (Q.Fetch hash)) s h)
+
+  fetch-holds : (a : Asking) (n : ℕ) (s : State) (hash : List ℕ) (q : DeviceQuery) → q ≡ Q.Fetch hash → HoldAll P s.held → HoldAll P (reply_to a n s q).state.held
+  fetch-holds a n s hash q e h = rw e (asked-holds (fails_at a.failed n (Q.Fetch hash)) s _ h (step-all P (rules_of a.config) a.reading s h (Q.Fetch hash) tt))
+
+  -- what a finished get returns
+  finished-given : (turns : ℕ) (a : Asking) (n : ℕ) (s : State) (devices hash : List ℕ) (answers : List Answered) (nx : Next) → a.task ≡ T.Get devices hash → HoldAll P s.held → AllByRecursion (λ a. Fetches hash a.answer) answers → IsGet hash nx → is-of hash (given hash (finished turns a n s answers nx).outcome)
   unfolding finished
-  finished-given turns a n s hash e h =
-      let r = reply_to a n s (Q.Fetch hash) in
-      let ended : next a.config a.task (r.answer ∷ []) ≡ ends (fetch_outcome r.answer) = ap (λ t. next a.config t (r.answer ∷ [])) e ∙ single-ends a.config (T.Get hash) (Q.Fetch hash) r.answer refl in
-      rw (single-asks a.config (T.Get hash) (Q.Fetch hash) refl, ended) (reply-given hash (fails_at a.failed n (Q.Fetch hash)) s h)
+  finished-given turns a n s devices hash answers (ends outcome) e h f g = ended turns
+    where
+      ended : (turns : ℕ) → is-of hash (given hash (finished turns a n s answers (ends outcome)).outcome)
+      ended zero = g
+      ended (suc k) = g
+  finished-given turns a n s devices hash answers (asks (Query.Table q)) e h f g = absurd g
+  finished-given zero a n s devices hash answers (asks (Query.Device d q)) e h f g = tt
+  finished-given (suc turns) a n s devices hash answers (asks (Query.Device d q)) e h f g =
+      let r = reply_to a n s q in
+      let more = fetches-more hash answers (answered n r.answer) f (fetch-reply a n s hash q g h) in
+      finished-given turns a (n + 1) r.state devices hash (answers ++ answered n r.answer ∷ []) (next a.config a.task (answers ++ answered n r.answer ∷ [])) e
+      (fetch-holds a n s hash q g h) more (next-gets a.config a.task devices hash _ e more)
 
   given-of : (c : Configuration) (failed : List ℕ) (scene : Scene) (reading : ℕ) (st : Option TaskState) → HoldAll P scene.state.held → IfSome (given_by c failed scene reading st) (λ r. (md5 r.bytes ≡ r.digest) × P r.bytes)
-  given-of c failed scene reading (Some (S.Open (T.Get hash) actor)) h =
-      finished-given 126 (record { config = c; failed = failed; actor = actor; reading = reading; task = T.Get hash }) scene.count scene.state hash refl h
+  given-of c failed scene reading (Some (S.Open (T.Get devices hash) actor)) h =
+      finished-given 128 (record { config = c; failed = failed; actor = actor; reading = reading; task = T.Get devices hash }) scene.count scene.state devices hash [] _ refl h tt
+      (next-gets c (T.Get devices hash) devices hash [] refl tt)
   given-of c failed scene reading _ h = tt
 
   read-of : (c : Configuration) (failed : List ℕ) (scene : Scene) (o : Option Command) → HoldAll P scene.state.held → IfSome (read_by c failed scene o) (λ r. (md5 r.bytes ≡ r.digest) × P r.bytes)
@@ -176,9 +211,10 @@ module _ (P : List ℕ → Type 0) where
   OpeningBrings _ = ⊤
 
   made-brings : (c : Configuration) (opening : Opening) → OpeningBrings opening → IsMade TaskBrings c opening
-  made-brings c (Open.Put token server bytes hash) p = λ id. p
-  made-brings c (Open.Get token server locator) p = λ hash. tt
-  made-brings c (Open.Touch token server locator) p = λ id hash. tt
+  made-brings c (Open.Put token server bytes hash) p = λ id some. p
+  made-brings c (Open.Get token server locator) p = λ hash some. tt
+  made-brings c (Open.Touch token server locator) p = λ id hash some. tt
+  made-brings c (Open.Untrash token server hash) p = λ some. tt
   made-brings c _ p = tt
 
   -- ---- lines
@@ -236,7 +272,7 @@ module _ (P Q : List ℕ → Type 0) (more : (bytes : List ℕ) → P bytes → 
   more-held (e ∷ es) h = (more e.1.bytes h.0, more-held es h.1)
 
   more-task : (task : Task) → TaskBrings P task → TaskBrings Q task
-  more-task (T.Put token id block) h = more block h
+  more-task (T.Put devices token id block) h = more block h
   more-task _ h = tt
 
   more-state : (st : TaskState) → StateBrings P st → StateBrings Q st

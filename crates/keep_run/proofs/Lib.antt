@@ -1,6 +1,7 @@
 pub mod Askable
 pub mod Commands
 pub mod Counters
+pub mod Devices
 pub mod GetsOfPuts
 pub mod Held
 pub mod Inputs

@@ -9,10 +9,11 @@ use Rattle.keep_event.specs.declared.device.DeviceAnswer.{DeviceAnswer}
 use Rattle.keep_event.specs.declared.device.DeviceQuery.{DeviceQuery}
 use Rattle.keep_history.specs.declared.task.Outcome.{Outcome}
 use Rattle.keep_history.specs.declared.task.Task.{Task}
-use Rattle.keep_history.specs.Effects.{Made, Asked, asked, is_failed, fails_at, finished, after_made, made_of, rules_of, event_lines}
+use Rattle.keep_event.specs.declared.event.Query.TheVariants as Query
+use Rattle.keep_history.specs.Effects.{Made, Asked, asked, is_failed, fails_at, finished, after_made, answered, made_of, rules_of, event_lines}
 use Rattle.keep_history.specs.Faults.{AgreeFrom, AreFaults}
 use Rattle.keep_history.specs.Printed.{event_line}
-use Rattle.keep_history.specs.Tasks.{Next, asks, ends, next}
+use Rattle.keep_history.specs.Tasks.{Answered, Next, asks, ends, next}
 use Rattle.keep_history.proofs.Faults.{AreFaults-none, AreFaults-one, AreFaults-join, Agree-left, Agree-right}
 use Rattle.keep_run.specs.Asked.{IsReply, asking, HasAsked, IsLeft, PartAsked}
 
@@ -39,15 +40,15 @@ fails-here others n q true may e = rw (may refl, e) refl
 fails-here others n q false may e = rw e (and-false (may_fault q))
 
 module _ (config : Configuration) (actor reading : ℕ) (task : Task) (name : List ℕ) where
-  abbrev asks_from : ℕ → ℕ → State → List DeviceAnswer → Next → List ℕ → Asked
+  abbrev asks_from : ℕ → ℕ → State → List Answered → Next → List ℕ → Asked
   asks_from turns n s answers nx failed = finished turns (asking config actor reading task failed) n s answers nx
 
-  finished-ends : (turns n : ℕ) (s : State) (answers : List DeviceAnswer) (o : Outcome) (failed : List ℕ) → asks_from turns n s answers (ends o) failed ≡ record { made = []; state = s; outcome = Some o }
+  finished-ends : (turns n : ℕ) (s : State) (answers : List Answered) (o : Outcome) (failed : List ℕ) → asks_from turns n s answers (ends o) failed ≡ record { made = []; state = s; outcome = Some o }
   unfolding finished
   finished-ends zero n s answers o failed = refl
   finished-ends (suc t) n s answers o failed = refl
 
-  pub ask-end : (turns n before : ℕ) (s : State) (state : Option State) (answers : List DeviceAnswer) (nx : Next) (o : Outcome) (out : List ℕ) → state ≡ Some s → nx ≡ ends o → HasAsked n 0 s state before before name out out o (asks_from turns n s answers nx)
+  pub ask-end : (turns n before : ℕ) (s : State) (state : Option State) (answers : List Answered) (nx : Next) (o : Outcome) (out : List ℕ) → state ≡ Some s → nx ≡ ends o → HasAsked n 0 s state before before name out out o (asks_from turns n s answers nx)
   ask-end turns n before s state answers nx o out st e = record {
     failed = [];
     asked = record { made = []; state = s; outcome = Some o };
@@ -66,12 +67,12 @@ module _ (config : Configuration) (actor reading : ℕ) (task : Task) (name : Li
   abbrev made_by : ℕ → ℕ → DeviceQuery → Reply → Made
   made_by n d q r = made_of (asking config actor reading task []) n d q r
 
-  abbrev rest_of : ℕ → ℕ → State → List DeviceAnswer → DeviceQuery → Bool → List ℕ → Asked
+  abbrev rest_of : ℕ → ℕ → State → List Answered → DeviceQuery → Bool → List ℕ → Asked
   rest_of turns n s answers q fails failed =
       let r = asked fails s (line_of_query q s) in
-      asks_from turns (n + 1) r.state (answers ++ r.answer ∷ []) (next config task (answers ++ r.answer ∷ [])) failed
+      asks_from turns (n + 1) r.state (answers ++ answered n r.answer ∷ []) (next config task (answers ++ answered n r.answer ∷ [])) failed
 
-  finished-asks : (turns n : ℕ) (s : State) (answers : List DeviceAnswer) (nx : Next) (d : ℕ) (q : DeviceQuery) (fails : Bool) (others : List ℕ) → nx ≡ asks d q → fails_at others n q ≡ fails → asks_from (suc turns) n s answers nx others ≡ after_made (made_by n d q (asked fails s (line_of_query q s))) (rest_of turns n s answers q fails others)
+  finished-asks : (turns n : ℕ) (s : State) (answers : List Answered) (nx : Next) (d : ℕ) (q : DeviceQuery) (fails : Bool) (others : List ℕ) → nx ≡ asks (Query.Device d q) → fails_at others n q ≡ fails → asks_from (suc turns) n s answers nx others ≡ after_made (made_by n d q (asked fails s (line_of_query q s))) (rest_of turns n s answers q fails others)
   unfolding finished
   finished-asks turns n s answers nx d q fails others e f = rw (e, ← f) refl
 
@@ -82,7 +83,7 @@ module _ (config : Configuration) (actor reading : ℕ) (task : Task) (name : Li
   left-more m rest s state zero is = (m.left, (refl, is))
   left-more m rest s state (suc k) (x, (at, is)) = (x, (at, is))
 
-  pub ask-more : (turns n made total before mid now : ℕ) (s : State) (between state : Option State) (answers : List DeviceAnswer) (nx : Next) (d : ℕ) (q : DeviceQuery) (answer : DeviceAnswer) (o : Outcome) (out_before out_mid out : List ℕ) → nx ≡ asks d q → (r : IsReply (line_of_query q) s between answer before mid) → (r.fails ≡ true → may_fault q ≡ true) → mid ≤ now → out_mid ≡ out_before ++ event_line name d answer → HasAsked (n + 1) made (asked r.fails s (line_of_query q s)).state state mid now name out_mid out o (rest_of turns n s answers q r.fails) → total ≡ suc made → HasAsked n total s state before now name out_before out o (asks_from (suc turns) n s answers nx)
+  pub ask-more : (turns n made total before mid now : ℕ) (s : State) (between state : Option State) (answers : List Answered) (nx : Next) (d : ℕ) (q : DeviceQuery) (answer : DeviceAnswer) (o : Outcome) (out_before out_mid out : List ℕ) → nx ≡ asks (Query.Device d q) → (r : IsReply (line_of_query q) s between answer before mid) → (r.fails ≡ true → may_fault q ≡ true) → mid ≤ now → out_mid ≡ out_before ++ event_line name d answer → HasAsked (n + 1) made (asked r.fails s (line_of_query q s)).state state mid now name out_mid out o (rest_of turns n s answers q r.fails) → total ≡ suc made → HasAsked n total s state before now name out_before out o (asks_from (suc turns) n s answers nx)
   ask-more turns n made total before mid now s between state answers nx d q answer o out_before out_mid out e r may le printed h count =
       let reply = asked r.fails s (line_of_query q s) in
       let f = AreFaults-reply n before mid r.fails r.never_falls r.rose in
@@ -110,7 +111,7 @@ module _ (config : Configuration) (actor reading : ℕ) (task : Task) (name : Li
   pub part-none : (n before now : ℕ) (s : State) (state : Option State) (f : List ℕ → Asked) → state ≡ Some s → before ≤ now → PartAsked n s state before now f
   part-none n before now s state f st le = record { made = 0; failed = []; faults = AreFaults-none n (n + 0) before now le; is = λ others agree. st }
 
-  pub part-more : (turns n before mid now : ℕ) (s : State) (between state : Option State) (answers : List DeviceAnswer) (nx : Next) (d : ℕ) (q : DeviceQuery) (answer : DeviceAnswer) → nx ≡ asks d q → (r : IsReply (line_of_query q) s between answer before mid) → (r.fails ≡ true → may_fault q ≡ true) → mid ≤ now → PartAsked (n + 1) (asked r.fails s (line_of_query q s)).state state mid now (rest_of turns n s answers q r.fails) → PartAsked n s state before now (asks_from (suc turns) n s answers nx)
+  pub part-more : (turns n before mid now : ℕ) (s : State) (between state : Option State) (answers : List Answered) (nx : Next) (d : ℕ) (q : DeviceQuery) (answer : DeviceAnswer) → nx ≡ asks (Query.Device d q) → (r : IsReply (line_of_query q) s between answer before mid) → (r.fails ≡ true → may_fault q ≡ true) → mid ≤ now → PartAsked (n + 1) (asked r.fails s (line_of_query q s)).state state mid now (rest_of turns n s answers q r.fails) → PartAsked n s state before now (asks_from (suc turns) n s answers nx)
   part-more turns n before mid now s between state answers nx d q answer e r may le p =
       let reply = asked r.fails s (line_of_query q s) in
       let f = AreFaults-reply n before mid r.fails r.never_falls r.rose in

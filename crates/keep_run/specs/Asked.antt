@@ -1,11 +1,12 @@
 -- What the queries of a task did, where the device's store tells. For private clauses.
-use Rattle.std.specs.Prelude.{◌≡◌, ◌≤◌, ◌+◌, ◌++◌, ℕ, zero, suc, List, [], length, slice_get, Option, Some, option_map, unwrap_or, IfSome, None, Bool, true, false, ◌==◌, if◌then◌else◌}
+use Rattle.std.specs.Prelude.{◌≡◌, ◌≤◌, ◌+◌, ◌++◌, ℕ, zero, suc, List, [], ◌∷◌, length, slice_get, Option, Some, option_map, unwrap_or, IfSome, None, Bool, true, false}
 use Rattle.keep_spec.specs.Causes.{Rose}
 use Rattle.keep_spec.specs.Config.{Configuration}
 use Rattle.keep_event.specs.Device.{State, Reply}
 use Rattle.keep_event.specs.Requests.{table_line}
 use Rattle.keep_event.specs.declared.table.TableQuery.{TableQuery}
 use Rattle.keep_event.specs.declared.device.DeviceAnswer.{DeviceAnswer}
+use Rattle.keep_event.specs.declared.event.Answer.TheVariants as An
 use Rattle.keep_history.specs.declared.task.Outcome.{Outcome}
 use Rattle.keep_history.specs.declared.task.Outcome.TheVariants as O
 use Rattle.keep_history.specs.declared.task.Task.{Task}
@@ -16,7 +17,7 @@ use Rattle.keep_volume.specs.Calls.{VolumeView, state_of}
 use Rattle.keep_history.specs.Effects.{Made, Asking, Asked, asked, event_lines, finished, most_turns}
 use Rattle.keep_history.specs.Faults.{AgreeFrom, AreFaults}
 use Rattle.keep_history.specs.Printed.{table_event_line}
-use Rattle.keep_history.specs.Tasks.{is_fault, write_end, fetch_end, fetched_none, found_by, nothing, touch_end, brought_none, brought_also, brought_end, writable, next, table_end}
+use Rattle.keep_history.specs.Tasks.{write_end, fetch_end, touch_end, not_written, not_fetched, not_touched, untrashed, next, table_end}
 use Rattle.keep_run.specs.Scenes.{Cluster}
 use Rattle.keep_run.specs.declared.asking.Finished.{Finished}
 
@@ -57,47 +58,46 @@ pub record PartAsked (n : ℕ) (s : State) (state : Option State) (before now : 
 
 -- how an answer to a write ends a put on the one device
 abbrev pub write_outcome : Configuration → List ℕ → List ℕ → DeviceAnswer → Outcome
-write_outcome c token bytes answer = unwrap_or (write_end c token bytes answer) (if is_fault answer then O.StoreFault else O.NoRoom)
+write_outcome c token bytes answer = unwrap_or (write_end c token bytes answer) (not_written (An.Device answer ∷ []))
 
 -- how an answer to a fetch ends a get from the one device
 abbrev pub fetch_outcome : DeviceAnswer → Outcome
-fetch_outcome answer = unwrap_or (fetch_end answer) (fetched_none (found_by nothing answer))
+fetch_outcome answer = unwrap_or (fetch_end answer) (not_fetched (An.Device answer ∷ []))
 
 -- how an answer to a touch ends it on the one device
 abbrev pub touch_outcome : Configuration → List ℕ → List ℕ → List ℕ → DeviceAnswer → Outcome
-touch_outcome c token hash text answer = unwrap_or (touch_end c token hash text answer) (if is_fault answer then O.StoreFault else O.NotFound)
+touch_outcome c token hash text answer = unwrap_or (touch_end c token hash text answer) (not_touched (An.Device answer ∷ []))
 
 abbrev pub untrash_outcome : DeviceAnswer → Outcome
-untrash_outcome answer = brought_end (brought_also brought_none answer)
+untrash_outcome answer = untrashed (An.Device answer ∷ [])
 
 abbrev pub is_table : Task → Bool
 is_table (T.Table q) = true
 is_table _ = false
 
-abbrev pub is_put : Task → Bool
-is_put (T.Put token id block) = true
-is_put _ = false
+-- a task of one query to a device
+abbrev pub is_single : Task → Bool
+is_single (T.Put devices token id block) = false
+is_single (T.Table q) = false
+is_single _ = true
 
 -- how the one answer to a task of one query ends it
 abbrev pub single_outcome : Configuration → Task → DeviceAnswer → Outcome
-single_outcome c (T.Put token id block) answer = O.NotFound
-single_outcome c (T.Get hash) answer = fetch_outcome answer
-single_outcome c (T.Touch token id hash text) answer = touch_outcome c token hash text answer
-single_outcome c (T.Untrash hash) answer = untrash_outcome answer
+single_outcome c (T.Put devices token id block) answer = O.NotFound
+single_outcome c (T.Get devices hash) answer = fetch_outcome answer
+single_outcome c (T.Touch devices token id hash text) answer = touch_outcome c token hash text answer
+single_outcome c (T.Untrash devices hash) answer = untrash_outcome answer
 single_outcome c (T.Restart device) answer = O.Restarted
 single_outcome c (T.Table q) answer = O.NotFound
 
-abbrev pub on_writable : Configuration → DeviceQuery → Option DeviceQuery
-on_writable c q = if length (writable c) == 0 then None else Some q
-
--- the query of a task that asks once, where a device can take it
-abbrev pub single_query : Configuration → Task → Option DeviceQuery
-single_query c (T.Put token id block) = None
-single_query c (T.Get hash) = Some (Q.Fetch hash)
-single_query c (T.Touch token id hash text) = on_writable c (Q.Touch hash (Some id))
-single_query c (T.Untrash hash) = on_writable c (Q.Untrash hash)
-single_query c (T.Restart device) = Some Q.Restart
-single_query c (T.Table q) = None
+-- the query of a task that asks a device once
+abbrev pub single_query : Task → Option DeviceQuery
+single_query (T.Put devices token id block) = None
+single_query (T.Get devices hash) = Some (Q.Fetch hash)
+single_query (T.Touch devices token id hash text) = Some (Q.Touch hash (Some id))
+single_query (T.Untrash devices hash) = Some (Q.Untrash hash)
+single_query (T.Restart device) = Some Q.Restart
+single_query (T.Table q) = None
 
 -- the device that a task of one query asks
 abbrev pub device_of : Task → ℕ

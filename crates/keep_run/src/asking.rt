@@ -1,18 +1,18 @@
 // The queries of a task to the one device, until the task ends.
-ghost use Rattle.std.specs.Prelude.{◌≡◌, ◌≤◌, IfOk, OnErr, Some, false};
+ghost use Rattle.std.specs.Prelude.{◌≡◌, ◌≤◌, IfOk, OnErr, true, false};
 ghost use Rattle.keep_spec.specs.Times.{IsReading};
 ghost use Rattle.keep_history.specs.Effects.{rules_of};
 ghost use Rattle.keep_history.specs.Tasks.{compare_end};
-ghost use Rattle.keep_run.specs.Asked.{IsFinished, IsPartFinished, write_outcome, fetch_outcome, touch_outcome, untrash_outcome, single_outcome, single_query, on_writable, device_of, is_put, turn};
+ghost use Rattle.keep_run.specs.Askable.{IsOne, IsAskable};
+ghost use Rattle.keep_run.specs.Asked.{IsFinished, IsPartFinished, write_outcome, fetch_outcome, touch_outcome, untrash_outcome, single_outcome, single_query, device_of, is_single, is_table, turn};
 
-use crate::locator::{signed_locator, touched_locator};
-use crate::opening::is_writable;
 use keep_config::Config;
 use keep_event::{Block, DeviceAnswer, DeviceQuery};
 use keep_history::{Outcome, Task};
 use keep_script::push_event_line;
-use keep_spec::{Bytes, Digest, NoMemory, TokenId};
+use keep_spec::{Bytes, Digest, Items, NoMemory, TokenId};
 use keep_store::Store;
+use keep_tasks::{signed_locator, touched_locator};
 use keep_volume::Volume;
 use std::alloc::Global;
 
@@ -113,54 +113,46 @@ fn single_outcome(
 {
     match task {
         Task::Put { .. } => Ok(Outcome::NotFound),
-        Task::Get { digest: _ } => Ok(fetch_outcome(answer)),
+        Task::Get {
+            devices: _,
+            digest: _,
+        } => Ok(fetch_outcome(answer)),
         Task::Touch {
+            devices: _,
             token,
             id: _,
             digest,
             stripped,
         } => touch_outcome(alloc, config, token, digest, stripped, &answer),
-        Task::Untrash { digest: _ } => Ok(untrash_outcome(&answer)),
+        Task::Untrash {
+            devices: _,
+            digest: _,
+        } => Ok(untrash_outcome(&answer)),
         Task::Restart { device: _ } => Ok(Outcome::Restarted),
         Task::Table { .. } => Ok(Outcome::NotFound),
     }
 }
 
-// The query of a task that asks once. None for a put, a table's task, and where a writable device is wanted and there is none.
-fn single_query(config: &Config, task: &Task) -> Option<DeviceQuery>
-    ensures { result ≡ single_query config.now task.now }
+// The query of a task that asks a device once. None for a put and for a table's task.
+fn single_query(task: &Task) -> Option<DeviceQuery>
+    ensures { result ≡ single_query task.now }
 {
     match task {
         Task::Put { .. } => None,
-        Task::Get { digest } => Some(DeviceQuery::Fetch { digest: *digest }),
+        Task::Get { devices: _, digest } => Some(DeviceQuery::Fetch { digest: *digest }),
         Task::Touch {
+            devices: _,
             token: _,
             id,
             digest,
             stripped: _,
-        } => where_writable(
-            config,
-            DeviceQuery::Touch {
-                digest: *digest,
-                token: Some(*id),
-            },
-        ),
-        Task::Untrash { digest } => where_writable(
-            config,
-            DeviceQuery::Untrash { digest: *digest },
-        ),
+        } => Some(DeviceQuery::Touch {
+            digest: *digest,
+            token: Some(*id),
+        }),
+        Task::Untrash { devices: _, digest } => Some(DeviceQuery::Untrash { digest: *digest }),
         Task::Restart { device: _ } => Some(DeviceQuery::Restart),
         Task::Table { .. } => None,
-    }
-}
-
-fn where_writable(config: &Config, query: DeviceQuery) -> Option<DeviceQuery>
-    ensures { result ≡ on_writable config.now query }
-{
-    if is_writable(config) {
-        Some(query)
-    } else {
-        None
     }
 }
 
@@ -188,24 +180,20 @@ fn finish_put<S: Store>(
     volume: &mut Volume<S>,
     reading: u64,
     name: &[u8],
+    devices: &Items<u32>,
     token: &Bytes,
     id: TokenId,
     block: &Block,
     out: &mut Vec<u8>,
 ) -> Result<Finished, NoMemory>
     requires rules { volume.old.rules ≡ rules_of config.now }
-    ensures done { IfOk result (λ f. IsFinished (turn config.now reading name.now (Task.Put token.now id block.now)) volume.old volume.new out.old.items out.new.items f) }
-    ensures stopped { OnErr result (IsPartFinished (turn config.now reading name.now (Task.Put token.now id block.now)) volume.old volume.new) }
+    requires one { IsOne devices.now }
+    ensures done { IfOk result (λ f. IsFinished (turn config.now reading name.now (Task.Put devices.now token.now id block.now)) volume.old volume.new out.old.items out.new.items f) }
+    ensures stopped { OnErr result (IsPartFinished (turn config.now reading name.now (Task.Put devices.now token.now id block.now)) volume.old volume.new) }
     ensures two_events { IfOk result (λ f. f.events ≤ 2) }
     ensures never_falls { volume.old.faults ≤ volume.new.faults }
     ensures rules { volume.new.rules ≡ volume.old.rules }
 {
-    if !is_writable(config) {
-        return Ok(Finished {
-            outcome: Outcome::NoRoom,
-            events: 0,
-        });
-    }
     let first = volume.compare_touch(reading, block, Some(id))?;
     push_event_line(out, name, 0, &first)?;
     if let Some(outcome) = compare_end(alloc, config, token, block, &first)? {
@@ -225,53 +213,28 @@ fn finish_single<S: Store>(
     reading: u64,
     name: &[u8],
     task: &Task,
-    query: &DeviceQuery,
     out: &mut Vec<u8>,
 ) -> Result<Finished, NoMemory>
     requires rules { volume.old.rules ≡ rules_of config.now }
     requires reading { IsReading reading }
-    requires query { single_query config.now task.now ≡ Some query.now }
+    requires single { is_single task.now ≡ true }
+    requires one { IsAskable task.now }
     ensures done { IfOk result (λ f. IsFinished (turn config.now reading name.now task.now) volume.old volume.new out.old.items out.new.items f) }
     ensures stopped { OnErr result (IsPartFinished (turn config.now reading name.now task.now) volume.old volume.new) }
     ensures two_events { IfOk result (λ f. f.events ≤ 2) }
     ensures never_falls { volume.old.faults ≤ volume.new.faults }
     ensures rules { volume.new.rules ≡ volume.old.rules }
 {
-    let answer = volume.step(reading, query)?;
+    let Some(query) = single_query(task) else {
+        unreachable!()
+    };
+    let answer = volume.step(reading, &query)?;
     push_event_line(out, name, device_of(task), &answer)?;
     let outcome = single_outcome(alloc, config, task, answer)?;
     Ok(Finished { outcome, events: 1 })
 }
 
-// Asks until a task other than a put ends: once, or not at all.
-fn finish_other<S: Store>(
-    alloc: Global,
-    config: &Config,
-    volume: &mut Volume<S>,
-    reading: u64,
-    name: &[u8],
-    task: &Task,
-    out: &mut Vec<u8>,
-) -> Result<Finished, NoMemory>
-    requires rules { volume.old.rules ≡ rules_of config.now }
-    requires reading { IsReading reading }
-    requires other { is_put task.now ≡ false }
-    ensures done { IfOk result (λ f. IsFinished (turn config.now reading name.now task.now) volume.old volume.new out.old.items out.new.items f) }
-    ensures stopped { OnErr result (IsPartFinished (turn config.now reading name.now task.now) volume.old volume.new) }
-    ensures two_events { IfOk result (λ f. f.events ≤ 2) }
-    ensures never_falls { volume.old.faults ≤ volume.new.faults }
-    ensures rules { volume.new.rules ≡ volume.old.rules }
-{
-    let Some(query) = single_query(config, task) else {
-        return Ok(Finished {
-            outcome: Outcome::NotFound,
-            events: 0,
-        });
-    };
-    finish_single(alloc, config, volume, reading, name, task, &query, out)
-}
-
-/// Asks the device until the task ends, and appends a line for each answer. After `NoMemory` the first of the queries were asked.
+/// Asks the device until a task other than the table's ends, and appends a line for each answer. After `NoMemory` the first of the queries were asked.
 pub(crate) fn finish<S: Store>(
     alloc: Global,
     config: &Config,
@@ -283,6 +246,8 @@ pub(crate) fn finish<S: Store>(
 ) -> Result<Finished, NoMemory>
     requires rules { volume.old.rules ≡ rules_of config.now }
     requires reading { IsReading reading }
+    requires device { is_table task.now ≡ false }
+    requires one { IsAskable task.now }
     ensures done { IfOk result (λ f. IsFinished (turn config.now reading name.now task.now) volume.old volume.new out.old.items out.new.items f) }
     ensures stopped { OnErr result (IsPartFinished (turn config.now reading name.now task.now) volume.old volume.new) }
     ensures two_events { IfOk result (λ f. f.events ≤ 2) }
@@ -290,13 +255,18 @@ pub(crate) fn finish<S: Store>(
     ensures rules { volume.new.rules ≡ volume.old.rules }
 {
     match task {
-        Task::Put { token, id, block } => {
-            finish_put(alloc, config, volume, reading, name, token, *id, block, out)
-        }
-        Task::Get { .. } => finish_other(alloc, config, volume, reading, name, task, out),
-        Task::Touch { .. } => finish_other(alloc, config, volume, reading, name, task, out),
-        Task::Untrash { .. } => finish_other(alloc, config, volume, reading, name, task, out),
-        Task::Restart { .. } => finish_other(alloc, config, volume, reading, name, task, out),
-        Task::Table { .. } => finish_other(alloc, config, volume, reading, name, task, out),
+        Task::Put {
+            devices,
+            token,
+            id,
+            block,
+        } => finish_put(
+            alloc, config, volume, reading, name, devices, token, *id, block, out,
+        ),
+        Task::Get { .. } => finish_single(alloc, config, volume, reading, name, task, out),
+        Task::Touch { .. } => finish_single(alloc, config, volume, reading, name, task, out),
+        Task::Untrash { .. } => finish_single(alloc, config, volume, reading, name, task, out),
+        Task::Restart { .. } => finish_single(alloc, config, volume, reading, name, task, out),
+        Task::Table { .. } => unreachable!(),
     }
 }

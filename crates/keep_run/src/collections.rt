@@ -1,108 +1,26 @@
-// The query of a task to the table, how its answer ends the task, and the one call that finishes any task.
+// The query of a task to the table, and the one call that finishes any task.
 ghost use Rattle.std.specs.Prelude.{◌≡◌, ◌≤◌, ◌^◌, ◌++◌, IfOk, OnErr};
 ghost use Rattle.keep_spec.specs.Times.{IsReading};
 ghost use Rattle.keep_event.specs.Requests.{rules_of as table_rules_of, table_line};
 ghost use Rattle.keep_history.specs.Effects.{rules_of};
 ghost use Rattle.keep_history.specs.Printed.{table_event_line};
-ghost use Rattle.keep_history.specs.Tasks.{end_as_answered, table_end, token_of_query};
+ghost use Rattle.keep_history.specs.Tasks.{table_end};
 ghost use Rattle.keep_collections.specs.Verdicts.{IsAsked};
 ghost use Rattle.keep_run.specs.Asked.{IsTaskDone, IsTaskStopped, turn};
 ghost use Rattle.keep_run.specs.Scenes.{cluster, CountersUpTo, RisesByOne};
 ghost use Rattle.keep_run.specs.Askable.{IsAskable};
 
 use crate::asking::{Finished, finish};
-use keep_collections::{Table, answer, collection_uuid, signed_row};
+use keep_collections::{Table, answer};
 use keep_config::Config;
-use keep_event::{TableAnswer, TableQuery};
+use keep_event::TableQuery;
 use keep_history::{Outcome, Task};
 use keep_script::push_table_event_line;
 use keep_spec::NoMemory;
 use keep_store::Store;
+use keep_tasks::table_outcome;
 use keep_volume::Volume;
 use std::alloc::Global;
-
-fn token_of_query(query: &TableQuery) -> &[u8]
-    ensures { result.now ≡ token_of_query query.now }
-{
-    match query {
-        TableQuery::Read {
-            token,
-            collection: _,
-            version: _,
-        } => token.as_slice(),
-        _ => b"",
-    }
-}
-
-// The end of an answer that goes into it as it is.
-fn end_as_answered(answer: TableAnswer) -> Outcome
-    ensures { result ≡ end_as_answered answer }
-{
-    match answer {
-        TableAnswer::TrashSet {
-            trash_at,
-            delete_at,
-        } => Outcome::TrashSet {
-            trash_at,
-            delete_at,
-        },
-        TableAnswer::Restored => Outcome::Restored,
-        TableAnswer::Swept {
-            versions,
-            collections,
-        } => Outcome::Swept {
-            versions,
-            collections,
-        },
-        _ => Outcome::Refused { answer },
-    }
-}
-
-// How the table's answer ends a task.
-#[tactic(auto, unfolding(keep_history::specs::Tasks::table_end))]
-fn table_outcome(
-    alloc: Global,
-    config: &Config,
-    query: &TableQuery,
-    answer: TableAnswer,
-) -> Result<Outcome, NoMemory>
-    ensures { IfOk result (λ o. o ≡ table_end config.now query.now answer) }
-{
-    match answer {
-        TableAnswer::Saved {
-            number,
-            version,
-            portable,
-        } => Ok(Outcome::Saved {
-            uuid: collection_uuid(alloc, config, number)?,
-            version,
-            portable,
-        }),
-        TableAnswer::Updated {
-            number,
-            version,
-            portable,
-        } => Ok(Outcome::Updated {
-            uuid: collection_uuid(alloc, config, number)?,
-            version,
-            portable,
-        }),
-        TableAnswer::Row {
-            number: _,
-            version,
-            expiry,
-            want,
-            trash_at,
-            text,
-        } => Ok(Outcome::Row {
-            version,
-            want,
-            trash_at,
-            text: signed_row(alloc, config, token_of_query(query), expiry, text)?,
-        }),
-        _ => Ok(end_as_answered(answer)),
-    }
-}
 
 // Asks the table once.
 fn ask_table(

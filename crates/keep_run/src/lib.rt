@@ -4,8 +4,6 @@
 mod asking;
 mod call;
 mod collections;
-mod locator;
-mod opening;
 mod run;
 mod stage;
 

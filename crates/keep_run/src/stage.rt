@@ -9,13 +9,13 @@ ghost use Rattle.keep_run.specs.Scenes.{IsStageOf, HasRoom, GrowsByLine};
 
 use crate::asking::Finished;
 use crate::collections::ask_task;
-use crate::opening::opened;
 use keep_collections::Table;
 use keep_config::Config;
 use keep_history::{Command, Opening, Outcome, Task, TaskState};
 use keep_script::push_end_line;
 use keep_spec::{Bytes, NoMemory};
 use keep_store::Store;
+use keep_tasks::opened;
 use keep_volume::Volume;
 use std::alloc::Global;
 use std::collections::BTreeMap;

@@ -37,7 +37,7 @@ returns-in_err-set_name-clause-stopped g c =
 pub returns-in-Err-clause-done : goal.returns-in-Err-clause-done
 returns-in-Err-clause-done g c =
     let old = c.args.stage.now in
-    let opens = sym c.in_ok-task.ensures ∙ c.in-Err.is in
+    let opens = sym c.in_ok-task.ensures.opened ∙ c.in-Err.is in
     let named = c.in_ok-set_name-in-Err.ensures.set ∙ ap (λ v. with_name c.args.name v old.names.entries) c.state_after.ensures in
     let printed = c.in_ok-push_end_line-in-Err.ensures ∙ ap (λ v. c.args.out.now.items ++ end_line v c.in-Err.outcome) c.as_slice.ensures in
     does-open-ended c.args.config.now old c.args.name c.args.reading (record { volume = old.volume; table = old.table; names = c.set_name.new.names; events = old.events })
@@ -46,7 +46,7 @@ returns-in-Err-clause-done g c =
 pub returns-clause-done : goal.returns-clause-done
 returns-clause-done g c =
     let old = c.args.stage.now in
-    let opens = sym c.in_ok-task.ensures ∙ c.in-Ok.is in
+    let opens = sym c.in_ok-task.ensures.opened ∙ c.in-Ok.is in
     let named = c.in_ok-set_name.ensures.set ∙ ap (λ n. with_name c.args.name (S.Open c.in-Ok.task n) old.names.entries) c.len-actor.ensures.len in
     does-open-task c.args.config.now old c.args.name c.args.reading (record { volume = old.volume; table = old.table; names = c.set_name-2.new.names; events = old.events })
     c.args.opening c.in-Ok.task _ _ opens refl refl refl named refl
@@ -56,6 +56,7 @@ returns-in-Err-clause-sound g c =
     let named = c.in_ok-set_name-in-Err.ensures.set ∙ ap (λ v. with_name c.args.name v c.args.stage.now.names.entries) c.state_after.ensures in
     let sound = c.requires.sound in
     record {
+      one_device = sound.one_device;
       device_rules = sound.device_rules;
       table_rules = sound.table_rules;
       askable = rw named (ended-askable c.args.name c.in-Err.outcome c.args.stage.now.names.entries sound.askable);
@@ -63,13 +64,14 @@ returns-in-Err-clause-sound g c =
 
 pub returns-clause-sound : goal.returns-clause-sound
 returns-clause-sound g c =
-    let opens = sym c.in_ok-task.ensures ∙ c.in-Ok.is in
+    let opens = sym c.in_ok-task.ensures.opened ∙ c.in-Ok.is in
     let sound = c.requires.sound in
     record {
+      one_device = sound.one_device;
       device_rules = sound.device_rules;
       table_rules = sound.table_rules;
       askable = rw c.in_ok-set_name.ensures.set (open-askable c.args.name c.in-Ok.task _ c.args.stage.now.names.entries
-          (opened-askable c.args.config.now c.args.opening c.args.reading c.in-Ok.task c.requires.times opens) sound.askable);
+          (opened-askable c.args.config.now c.args.opening c.args.reading c.in-Ok.task c.requires.times opens sound.one_device (rw c.in-Ok.is at c.in_ok-task.ensures.within)) sound.askable);
     }
 
 pub returns-in-Err-clause-grows : goal.returns-in-Err-clause-grows

@@ -33,7 +33,11 @@ fn push_padded(alloc: Global, out: &mut Vec<u8>, number: u64) -> Result<(), NoMe
 
 /// Returns the UUID of a collection by its number: the cluster's name, `-4zz18-` and the number in 15 decimal digits, more only where it has more.
 #[tactic(auto, unfolding(keep_event::specs::Collections::collection_uuid))]
-pub fn collection_uuid(alloc: Global, config: &Config, number: u64) -> Result<Bytes, NoMemory>
+pub(crate) fn collection_uuid(
+    alloc: Global,
+    config: &Config,
+    number: u64,
+) -> Result<Bytes, NoMemory>
     ensures { IfOk result (λ b. b ≡ collections.collection_uuid config.now number) }
 {
     let mut out = Vec::from_slice(alloc, config.cluster.as_slice())?;
@@ -52,7 +56,7 @@ fn has_collection_form(config: &Config, text: &[u8]) -> bool
 
 /// Returns the number of a collection by its UUID, or 0, which no collection has, where the text isn't the UUID of a collection of this cluster. It takes no memory.
 #[tactic(auto, unfolding(keep_event::specs::Collections::collection_number))]
-pub fn collection_number(config: &Config, text: &[u8]) -> u64
+pub(crate) fn collection_number(config: &Config, text: &[u8]) -> u64
     ensures { result ≡ collections.collection_number config.now text.now }
 {
     if !has_collection_form(config, text) {

@@ -10,7 +10,7 @@ use std::alloc::Global;
 
 /// Returns the text of a row that a read answered, with each locator but empty blocks signed for `token` until `expiry` (seconds since 1970). Without an expiry, as of a collection in the trash, and where it isn't a manifest, which the table never answers, the text is returned unchanged.
 #[tactic(auto, unfolding(keep_event::specs::Collections::signed_row))]
-pub fn signed_row(
+pub(crate) fn signed_row(
     alloc: Global,
     config: &Config,
     token: &[u8],

@@ -1,7 +1,7 @@
 use Rattle.std.proofs.Common.{sym, ◌∙◌, ap}
 use Rattle.keep_event.specs.Collections.{signed_row}
-use Rattle.keep_collections.proofs.Rows.{signed-stays}
-use Rattle.keep_collections.proofs.row.signed_row.Goals as goal
+use Rattle.keep_tasks.proofs.Rows.{signed-stays}
+use Rattle.keep_tasks.proofs.row.signed_row.Goals as goal
 
 pub returns-in-Err-Refused : goal.returns-in-Err-Refused
 returns-in-Err-Refused c =

@@ -1,25 +1,35 @@
 // What an opening makes: a task, or an end at once.
-ghost use Rattle.std.specs.Prelude.{◌≡◌, ℕ, IfOk, [], ◌∷◌, if◌then◌else◌};
-ghost use Rattle.keep_history.specs.Tasks.{opened, put_opened, get_opened, touch_opened, untrash_opened, where_writable, permitted_block, asks_table, by_verdict, has_other_digest, writable};
-ghost use Rattle.keep_run.specs.Askable.{AsksTable};
+ghost use Rattle.std.specs.Prelude.{◌≡◌, ◌<◌, ℕ, IfOk, All, length};
+ghost use Rattle.keep_spec.specs.Config.{devices_of};
+ghost use Rattle.keep_history.specs.Tasks.{opened, put_opened, get_opened, touch_opened, untrash_opened, on_any, permitted_block, asks_table, by_verdict, has_other_digest, is_read_only, writable};
+ghost use Rattle.keep_tasks.specs.Openings.{AsksTable, HasDevicesBelow};
 
-use keep_collections::collection_number;
+use crate::uuid::collection_number;
 use keep_config::Config;
 use keep_event::{Block, TableQuery};
 use keep_history::{Opening, Outcome, Task};
 use keep_locator::Locator;
 use keep_sign::verify;
-use keep_spec::{Bytes, Digest, NoMemory, TokenId, Unverified, Verified};
+use keep_spec::{Bytes, Digest, Items, NoMemory, TokenId, Unverified, Verified};
 use std::alloc::Global;
 
-// Whether the server's one device takes changes.
-pub(crate) fn is_writable(config: &Config) -> bool
-    ensures { writable config.now ≡ (if result then 0 ∷ [] else []) }
+fn is_read_only(config: &Config, device: u32) -> bool
+    ensures { result ≡ is_read_only config.now device }
 {
-    match config.devices.as_slice().get(0) {
-        Some(device) => !device.read_only,
-        None => true,
+    match config.devices.as_slice().get(device as usize) {
+        Some(device) => device.read_only,
+        None => false,
     }
+}
+
+// The devices of a server that take changes, each once, in the order of its mounts.
+fn writable(alloc: Global, config: &Config, server: u32) -> Result<Items<u32>, NoMemory>
+    ensures devices { IfOk result (λ ds. ds ≡ writable config.now server) }
+    ensures within { IfOk result (λ ds. All (λ d. d < length config.now.devices) ds) }
+{
+    let mut devices = config.devices_of(alloc, server)?;
+    devices.retain(|device| !is_read_only(config, *device));
+    Ok(Items::of(devices))
 }
 
 fn has_other_digest(block: &Block, digest: Option<Digest>) -> bool
@@ -34,12 +44,14 @@ fn has_other_digest(block: &Block, digest: Option<Digest>) -> bool
 fn open_put(
     alloc: Global,
     config: &Config,
+    server: u32,
     id: TokenId,
     token: Bytes,
     bytes: Bytes,
     digest: Option<Digest>,
 ) -> Result<Result<Task, Outcome>, NoMemory>
-    ensures { IfOk result (λ r. r ≡ put_opened config.now id token bytes digest) }
+    ensures opened { IfOk result (λ r. r ≡ put_opened config.now server id token bytes digest) }
+    ensures within { IfOk result (HasDevicesBelow (length config.now.devices)) }
 {
     let Ok(block) = Block::of(bytes) else {
         return Ok(Err(Outcome::TooLong));
@@ -55,10 +67,16 @@ fn open_put(
             locator: Bytes::of(locator),
         }));
     }
-    if !is_writable(config) {
+    let devices = writable(alloc, config, server)?;
+    if devices.len() == 0 {
         return Ok(Err(Outcome::NoRoom));
     }
-    Ok(Ok(Task::Put { token, id, block }))
+    Ok(Ok(Task::Put {
+        devices,
+        token,
+        id,
+        block,
+    }))
 }
 
 // The digest that a verdict lets a token ask for.
@@ -93,51 +111,50 @@ fn permitted(
 fn open_get(
     alloc: Global,
     config: &Config,
+    server: u32,
     id: TokenId,
     token: &Bytes,
     text: &Bytes,
     reading: u64,
-) -> Result<Task, Outcome>
-    ensures { result ≡ get_opened config.now id token.now text.now reading }
+) -> Result<Result<Task, Outcome>, NoMemory>
+    ensures opened { IfOk result (λ r. r ≡ get_opened config.now server id token.now text.now reading) }
+    ensures within { IfOk result (HasDevicesBelow (length config.now.devices)) }
 {
     let locator = match Locator::read(text.as_slice()) {
         Ok(locator) => locator,
         Err(error) => {
-            return Err(Outcome::BadLocator {
+            return Ok(Err(Outcome::BadLocator {
                 at: error.at as u64,
-            });
+            }));
         }
     };
     if locator.is_empty_block() {
-        return Err(Outcome::Bytes {
+        return Ok(Err(Outcome::Bytes {
             bytes: Bytes::of(Vec::new(alloc)),
-        });
+        }));
     }
-    match permitted(config, id, token.as_slice(), &locator, reading) {
-        Ok(digest) => Ok(Task::Get { digest }),
-        Err(outcome) => Err(outcome),
+    let digest = match permitted(config, id, token.as_slice(), &locator, reading) {
+        Ok(digest) => digest,
+        Err(outcome) => return Ok(Err(outcome)),
+    };
+    let devices = Items::of(config.devices_of(alloc, server)?);
+    if devices.len() == 0 {
+        return Ok(Err(Outcome::NotFound));
     }
-}
-
-fn where_writable(config: &Config, task: Task) -> Result<Task, Outcome>
-    ensures { result ≡ where_writable config.now task }
-{
-    if is_writable(config) {
-        Ok(task)
-    } else {
-        Err(Outcome::NotFound)
-    }
+    Ok(Ok(Task::Get { devices, digest }))
 }
 
 fn open_touch(
     alloc: Global,
     config: &Config,
+    server: u32,
     id: TokenId,
     token: Bytes,
     text: &Bytes,
     reading: u64,
 ) -> Result<Result<Task, Outcome>, NoMemory>
-    ensures { IfOk result (λ r. r ≡ touch_opened config.now id token text.now reading) }
+    ensures opened { IfOk result (λ r. r ≡ touch_opened config.now server id token text.now reading) }
+    ensures within { IfOk result (HasDevicesBelow (length config.now.devices)) }
 {
     let locator = match Locator::read(text.as_slice()) {
         Ok(locator) => locator,
@@ -151,28 +168,41 @@ fn open_touch(
     if locator.is_empty_block() {
         return Ok(Err(Outcome::Touched { locator: stripped }));
     }
-    match permitted(config, id, token.as_slice(), &locator, reading) {
-        Ok(digest) => Ok(where_writable(
-            config,
-            Task::Touch {
-                token,
-                id,
-                digest,
-                stripped,
-            },
-        )),
-        Err(outcome) => Ok(Err(outcome)),
+    let digest = match permitted(config, id, token.as_slice(), &locator, reading) {
+        Ok(digest) => digest,
+        Err(outcome) => return Ok(Err(outcome)),
+    };
+    let devices = writable(alloc, config, server)?;
+    if devices.len() == 0 {
+        return Ok(Err(Outcome::NotFound));
     }
+    Ok(Ok(Task::Touch {
+        devices,
+        token,
+        id,
+        digest,
+        stripped,
+    }))
 }
 
-fn open_untrash(config: &Config, id: TokenId, digest: Digest) -> Result<Task, Outcome>
-    ensures { result ≡ untrash_opened config.now id digest }
+fn open_untrash(
+    alloc: Global,
+    config: &Config,
+    server: u32,
+    id: TokenId,
+    digest: Digest,
+) -> Result<Result<Task, Outcome>, NoMemory>
+    ensures opened { IfOk result (λ r. r ≡ untrash_opened config.now server id digest) }
+    ensures within { IfOk result (HasDevicesBelow (length config.now.devices)) }
 {
-    if id.number == 0 {
-        where_writable(config, Task::Untrash { digest })
-    } else {
-        Err(Outcome::Forbidden)
+    if id.number != 0 {
+        return Ok(Err(Outcome::Forbidden));
     }
+    let devices = writable(alloc, config, server)?;
+    if devices.len() == 0 {
+        return Ok(Err(Outcome::NotFound));
+    }
+    Ok(Ok(Task::Untrash { devices, digest }))
 }
 
 // The query of an opening that asks the table.
@@ -221,48 +251,50 @@ fn table_query(config: &Config, opening: Opening) -> TableQuery
     }
 }
 
-/// The task that an opening makes at a reading (nanoseconds since 1970), or its end at once. Nothing is asked.
+/// The task that an opening makes at a reading (nanoseconds since 1970), or its end at once. Nothing is asked. The devices of a walk are devices of the
+/// configuration.
 #[tactic(auto, unfolding(keep_history::specs::Tasks::opened))]
-pub(crate) fn opened(
+pub fn opened(
     alloc: Global,
     config: &Config,
     opening: Opening,
     reading: u64,
 ) -> Result<Result<Task, Outcome>, NoMemory>
-    ensures { IfOk result (λ r. r ≡ opened config.now opening reading) }
+    ensures opened { IfOk result (λ r. r ≡ opened config.now opening reading) }
+    ensures within { IfOk result (HasDevicesBelow (length config.now.devices)) }
 {
     match opening {
         Opening::Put {
             token,
-            server: _,
+            server,
             bytes,
             digest,
         } => match config.token(token.as_slice()) {
-            Some(id) => open_put(alloc, config, id, token, bytes, digest),
+            Some(id) => open_put(alloc, config, server, id, token, bytes, digest),
             None => Ok(Err(Outcome::UnknownToken)),
         },
         Opening::Get {
             token,
-            server: _,
+            server,
             locator,
         } => match config.token(token.as_slice()) {
-            Some(id) => Ok(open_get(alloc, config, id, &token, &locator, reading)),
+            Some(id) => open_get(alloc, config, server, id, &token, &locator, reading),
             None => Ok(Err(Outcome::UnknownToken)),
         },
         Opening::Touch {
             token,
-            server: _,
+            server,
             locator,
         } => match config.token(token.as_slice()) {
-            Some(id) => open_touch(alloc, config, id, token, &locator, reading),
+            Some(id) => open_touch(alloc, config, server, id, token, &locator, reading),
             None => Ok(Err(Outcome::UnknownToken)),
         },
         Opening::Untrash {
             token,
-            server: _,
+            server,
             digest,
         } => match config.token(token.as_slice()) {
-            Some(id) => Ok(open_untrash(config, id, digest)),
+            Some(id) => open_untrash(alloc, config, server, id, digest),
             None => Ok(Err(Outcome::UnknownToken)),
         },
         Opening::Restart { device } => Ok(Ok(Task::Restart { device })),

@@ -19,7 +19,7 @@ fn expiry_of(config: &Config, mtime: u64) -> u32
 
 /// The locator of a block, signed for a token by the time of its replica.
 #[tactic(auto, unfolding(keep_history::specs::Tasks::signed_locator))]
-pub(crate) fn signed_locator(
+pub fn signed_locator(
     alloc: Global,
     config: &Config,
     token: &[u8],
@@ -41,7 +41,7 @@ pub(crate) fn signed_locator(
 
 /// The locator of a touch: the given one without its hints, signed for a token by the time of the replica.
 #[tactic(auto, unfolding(keep_history::specs::Tasks::touched_locator))]
-pub(crate) fn touched_locator(
+pub fn touched_locator(
     alloc: Global,
     config: &Config,
     token: &Bytes,

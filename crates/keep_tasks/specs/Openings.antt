@@ -1,0 +1,29 @@
+-- Openings that ask the table, and the devices of the task that an opening makes.
+use Rattle.std.specs.Prelude.{◌<◌, ℕ, List, [], All, Result, Ok, Err, ⊤}
+use Rattle.keep_history.specs.declared.task.Opening.{Opening}
+use Rattle.keep_history.specs.declared.task.Opening.TheVariants as Open
+use Rattle.keep_history.specs.declared.task.Outcome.{Outcome}
+use Rattle.keep_history.specs.declared.task.Task.{Task}
+use Rattle.keep_history.specs.declared.task.Task.TheVariants as T
+
+-- an opening that asks the table
+abbrev pub AsksTable : Opening → Type 0
+AsksTable (Open.Put token server bytes hash) = ⊥
+AsksTable (Open.Get token server locator) = ⊥
+AsksTable (Open.Touch token server locator) = ⊥
+AsksTable (Open.Untrash token server hash) = ⊥
+AsksTable (Open.Restart device) = ⊥
+AsksTable other = ⊤
+
+-- the devices that a task walks over
+abbrev pub walked : Task → List ℕ
+walked (T.Put devices token id block) = devices
+walked (T.Get devices hash) = devices
+walked (T.Touch devices token id hash text) = devices
+walked (T.Untrash devices hash) = devices
+walked _ = []
+
+-- a task that was made walks over devices below a number
+abbrev pub HasDevicesBelow : ℕ → Result Task Outcome → Type 0
+HasDevicesBelow n (Ok task) = All (λ d. d < n) (walked task)
+HasDevicesBelow n (Err outcome) = ⊤
