@@ -3,8 +3,7 @@
 // `trash TOKEN NUMBER TRASH_AT DELETE_AT` or `restore TOKEN NUMBER`. A portable hash may be `-`, a version may be left out; a text is the rest of the line and a
 // newline, or nothing. The answer is the printed line of each event, with what that line doesn't say.
 ghost use Rattle.std.specs.Prelude.{◌≡◌, IfOk, IfSome};
-ghost use Rattle.keep_event.specs.Requests.{rules_of as table_rules_of};
-ghost use Rattle.keep_collections.specs.Verdicts.{IsAsked};
+ghost use Rattle.keep_event.specs.Requests.{MayAskTable, rules_of as table_rules_of};
 
 use crate::answer::Answer;
 use crate::book::Case;
@@ -89,7 +88,7 @@ impl<'a> Words<'a> {
 }
 
 fn query_of(alloc: Global, asked: &str) -> Result<Option<TableQuery>, OutOfMemory>
-    ensures { IfOk result (λ o. IfSome o IsAsked) }
+    ensures { IfOk result (λ o. IfSome o MayAskTable) }
 {
     let mut words = Words { rest: asked };
     match words.word() {
@@ -148,7 +147,7 @@ fn query_about(
     kind: &str,
     words: &mut Words,
 ) -> Result<Option<TableQuery>, OutOfMemory>
-    ensures { IfOk result (λ o. IfSome o IsAsked) }
+    ensures { IfOk result (λ o. IfSome o MayAskTable) }
 {
     let token = words.bytes(alloc)?;
     let collection = words.number();

@@ -1,5 +1,6 @@
 pub mod Ascending
 pub mod Changes
+mod Listed
 pub mod Locators
 pub mod Saves
 pub mod Tokens

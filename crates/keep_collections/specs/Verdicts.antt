@@ -1,4 +1,4 @@
--- When a request is good, in the words of its user, and which queries may be asked.
+-- When a request is good, in the words of its user, and kinds of queries.
 use Rattle.std.specs.Prelude.{◌≡◌, ◌<◌, ◌≤◌, ◌⊎◌, ⊤, ℕ, Bool, true, false, List, Option, None, Some, IsTrue, IsSome, IsOk}
 use Rattle.std.specs.List.{AllByRecursion}
 use Rattle.keep_spec.specs.Config.{Configuration, token_of}
@@ -7,7 +7,6 @@ use Rattle.keep_spec.specs.Portable.{portable_text}
 use Rattle.keep_spec.specs.Refusals.{bad}
 use Rattle.keep_spec.specs.Sign.{verdict}
 use Rattle.keep_spec.specs.Stripped.{portable_hash}
-use Rattle.keep_spec.specs.Times.{IsReading}
 use Rattle.keep_spec.specs.declared.portable.Portable.{Portable}
 use Rattle.keep_spec.specs.declared.token.TokenId.{TokenId}
 use Rattle.keep_event.specs.Table.{State, collection_of, is_owner, is_in_trash, versions_held}
@@ -26,17 +25,6 @@ use Rattle.keep_collections.specs.declared.request.Verdict.TheVariants.{Good, Re
 abbrev pub IsVerdict : Option TableAnswer → NewRecord → Verdict → Type 0
 IsVerdict refusal made (Good record_made) = (refusal ≡ None) × (record_made ≡ made)
 IsVerdict refusal made (Refused answer) = refusal ≡ Some answer
-
--- a time that is set is a reading, and a page has room for a row
-abbrev pub IsAsked : TableQuery → Type 0
-IsAsked queries.BeginRound = ⊤
-IsAsked (queries.Save request) = ⊤
-IsAsked (queries.Update collection preserve request) = ⊤
-IsAsked (queries.Read token collection version) = ⊤
-IsAsked (queries.SetTrash token collection trash_at delete_at) = IsReading trash_at
-IsAsked (queries.Restore token collection) = ⊤
-IsAsked queries.Sweep = ⊤
-IsAsked (queries.Scan round after limit) = 0 < limit
 
 abbrev pub begins_round : TableQuery → Bool
 begins_round queries.BeginRound = true

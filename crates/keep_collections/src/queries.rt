@@ -6,7 +6,9 @@ ghost use Rattle.keep_event.specs.Table.{has_room};
 ghost use Rattle.keep_event.specs.Table as machine;
 ghost use Rattle.keep_event.specs.Requests as requests;
 ghost use Rattle.keep_table.specs.Contents.{IsLine, is_updated};
-ghost use Rattle.keep_collections.specs.Verdicts.{IsAboutCollection, IsAsked, IsGood, IsGoodUpdate, begins_round, is_saved};
+ghost use Rattle.keep_event.specs.Answers.{IsTableAnswer};
+ghost use Rattle.keep_collections.specs.Rows.{HasRows};
+ghost use Rattle.keep_collections.specs.Verdicts.{IsAboutCollection, IsGood, IsGoodUpdate, begins_round, is_saved};
 
 use crate::request::{Verdict, judged};
 use keep_config::Config;
@@ -149,7 +151,7 @@ fn answer_about_collection(
 ) -> Result<TableAnswer, NoMemory>
     requires rules { table.old.rules ≡ requests.rules_of config.now }
     requires reading { IsReading reading }
-    requires asked { IsAsked query.now }
+    requires asked { requests.MayAskTable query.now }
     requires about { IsAboutCollection query.now }
     ensures { IsLine (requests.table_line config.now reading query.now table.old.state) table.old table.new result }
 {
@@ -187,10 +189,8 @@ fn answer_about_collection(
     }
 }
 
-/// Asks the table a query at a reading (nanoseconds since 1970), and returns its answer.
-///
-/// A refusal changes nothing, nor does NoMemory, the only error, which BeginRound never returns.
-pub fn answer(
+// What the table answers to a query.
+fn answered(
     alloc: Global,
     table: &mut Table,
     config: &Config,
@@ -200,8 +200,9 @@ pub fn answer(
     requires room { IsTrue (has_room table.old.state) }
     requires rules { table.old.rules ≡ requests.rules_of config.now }
     requires reading { IsReading reading }
-    requires asked { IsAsked query.now }
+    requires asked { requests.MayAskTable query.now }
     ensures line { IsLine (requests.table_line config.now reading query.now table.old.state) table.old table.new result }
+    ensures rows { IfOk result (HasRows query.now) }
     ensures round_needs_no_memory { OnTrue (begins_round query.now) (IsOk result) }
 {
     match query {
@@ -230,4 +231,26 @@ pub fn answer(
             limit,
         } => table.scan(*round, *after, *limit),
     }
+}
+
+/// Asks the table a query at a reading (nanoseconds since 1970), and returns its answer, which is one of those that `TableQuery` names for the query.
+///
+/// A refusal changes nothing, nor does NoMemory, the only error, which BeginRound never returns.
+#[tactic(auto, using(crate::proofs::Listed::listed))]
+pub fn answer(
+    alloc: Global,
+    table: &mut Table,
+    config: &Config,
+    reading: u64,
+    query: &TableQuery,
+) -> Result<TableAnswer, NoMemory>
+    requires room { IsTrue (has_room table.old.state) }
+    requires rules { table.old.rules ≡ requests.rules_of config.now }
+    requires reading { IsReading reading }
+    requires asked { requests.MayAskTable query.now }
+    ensures line { IsLine (requests.table_line config.now reading query.now table.old.state) table.old table.new result }
+    ensures listed { IfOk result (IsTableAnswer query.now) }
+    ensures round_needs_no_memory { OnTrue (begins_round query.now) (IsOk result) }
+{
+    answered(alloc, table, config, reading, query)
 }

@@ -1,6 +1,7 @@
 pub mod Answers
 pub mod Block
 pub mod Collections
+pub mod Counters
 pub mod Device
 pub mod Index
 pub mod Lists

@@ -3,6 +3,7 @@ use Rattle.std.specs.Prelude.{ℕ, zero, suc, ◌+◌, ◌==◌, ◌&&◌, List,
 use Rattle.std.specs.List.{list_any}
 use Rattle.keep_spec.specs.Config.{Configuration}
 use Rattle.keep_spec.specs.declared.config.Device.{Device}
+use Rattle.keep_event.specs.World.{device_rules}
 use Rattle.keep_event.specs.Device.{State, Reply, stays, step, may_fault}
 use Rattle.keep_event.specs.declared.device.DeviceRules.{DeviceRules}
 use Rattle.keep_event.specs.declared.device.DeviceQuery.{DeviceQuery}
@@ -48,12 +49,8 @@ pub record Effect : Type 0 where
 
 -- THE DEVICE
 -- what the configuration says of its one device
-abbrev pub device_rules : Configuration → Option Device → DeviceRules
-device_rules c None = record { capacity = 0; read_only = true; ttl = 0; skew = 0; trash_life = 0 }
-device_rules c (Some d) = record { capacity = d.capacity; read_only = d.read_only; ttl = c.ttl; skew = c.skew; trash_life = c.trash_life }
-
 abbrev pub rules_of : Configuration → DeviceRules
-rules_of c = device_rules c (slice_get c.devices 0)
+rules_of c = device_rules c 0
 
 -- whether the event of a number is one of those at which the store failed
 abbrev pub is_failed : List ℕ → ℕ → Bool

@@ -1,6 +1,5 @@
 pub mod Askable
 pub mod Commands
-pub mod Counters
 pub mod Devices
 pub mod GetsOfPuts
 pub mod Held

@@ -5,7 +5,7 @@ use Rattle.keep_history.specs.declared.task.Task.{Task}
 use Rattle.keep_history.specs.declared.task.Task.TheVariants as T
 use Rattle.keep_history.specs.declared.task.TaskState.{TaskState}
 use Rattle.keep_history.specs.declared.task.TaskState.TheVariants as S
-use Rattle.keep_collections.specs.Verdicts.{IsAsked}
+use Rattle.keep_event.specs.Requests.{MayAskTable}
 use Rattle.keep_history.specs.Names.{Names}
 
 -- the one device alone
@@ -18,7 +18,7 @@ IsAskable (T.Get devices hash) = IsOne devices
 IsAskable (T.Touch devices token id hash text) = IsOne devices
 IsAskable (T.Untrash devices hash) = IsOne devices
 IsAskable (T.Restart device) = ⊤
-IsAskable (T.Table q) = IsAsked q
+IsAskable (T.Table q) = MayAskTable q
 
 abbrev pub IsAskableState : TaskState → Type 0
 IsAskableState (S.Open task actor) = IsAskable task

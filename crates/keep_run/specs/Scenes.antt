@@ -2,6 +2,7 @@
 use Rattle.std.specs.Prelude.{◌≡◌, ◌≤◌, ◌<◌, ◌+◌, ◌^◌, ℕ, [], length, Option, option_map}
 use Rattle.keep_spec.specs.Config.{Configuration}
 use Rattle.keep_event.specs.Device.{State}
+use Rattle.keep_event.specs.Counters.{CountersUpTo, RisesByOne}
 use Rattle.keep_event.specs.Table as tables
 use Rattle.keep_event.specs.Requests.{rules_of as table_rules_of}
 use Rattle.keep_table.specs.Contents.{Contents}
@@ -38,16 +39,6 @@ pub record IsFresh {S : Type 0} (stage : Stage S) : Type 0 where
   pub events : stage.events ≡ 0
   pub table : stage.table.state ≡ tables.empty
   pub names : stage.names.entries ≡ []
-
--- no counter of a table is above a number
-pub record CountersUpTo (most : ℕ) (s : tables.State) : Type 0 where
-  pub numbers : s.numbers ≤ most
-  pub revisions : s.revisions ≤ most
-  pub rounds : s.rounds ≤ most
-
--- each counter rises by one at most
-abbrev pub RisesByOne : tables.State → tables.State → Type 0
-RisesByOne old new = (most : ℕ) → CountersUpTo most old → CountersUpTo (most + 1) new
 
 -- a run takes fewer lines than any of these bounds
 pub record HasRoom {S : Type 0} (stage : Stage S) : Type 0 where

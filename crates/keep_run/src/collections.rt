@@ -1,13 +1,13 @@
 // The query of a task to the table, and the one call that finishes any task.
 ghost use Rattle.std.specs.Prelude.{◌≡◌, ◌≤◌, ◌^◌, ◌++◌, IfOk, OnErr};
 ghost use Rattle.keep_spec.specs.Times.{IsReading};
-ghost use Rattle.keep_event.specs.Requests.{rules_of as table_rules_of, table_line};
+ghost use Rattle.keep_event.specs.Requests.{MayAskTable, rules_of as table_rules_of, table_line};
 ghost use Rattle.keep_history.specs.Effects.{rules_of};
 ghost use Rattle.keep_history.specs.Printed.{table_event_line};
 ghost use Rattle.keep_history.specs.Tasks.{table_end};
-ghost use Rattle.keep_collections.specs.Verdicts.{IsAsked};
 ghost use Rattle.keep_run.specs.Asked.{IsTaskDone, IsTaskStopped, turn};
-ghost use Rattle.keep_run.specs.Scenes.{cluster, CountersUpTo, RisesByOne};
+ghost use Rattle.keep_event.specs.Counters.{CountersUpTo, RisesByOne};
+ghost use Rattle.keep_run.specs.Scenes.{cluster};
 ghost use Rattle.keep_run.specs.Askable.{IsAskable};
 
 use crate::asking::{Finished, finish};
@@ -35,7 +35,7 @@ fn ask_table(
     requires rules { table.old.rules ≡ table_rules_of config.now }
     requires room { CountersUpTo (2 ^ 40) table.old.state }
     requires reading { IsReading reading }
-    requires asked { IsAsked query.now }
+    requires asked { MayAskTable query.now }
     ensures changed { IfOk result (λ _. table.new.state ≡ (table_line config.now reading query.now table.old.state).state) }
     ensures ended { IfOk result (λ o. o ≡ table_end config.now query.now (table_line config.now reading query.now table.old.state).answer) }
     ensures printed { IfOk result (λ _. out.new.items ≡ out.old.items ++ table_event_line name.now (table_line config.now reading query.now table.old.state).answer) }

@@ -1,4 +1,4 @@
-use Rattle.keep_run.proofs.Counters.{line-few}
+use Rattle.keep_event.proofs.Counters.{line-few}
 use Rattle.keep_run.proofs.collections.ask_task.Goals as goal
 
 pub returns-in_ok-outcome-in-Table-clause-table_rises : goal.returns-in_ok-outcome-in-Table-clause-table_rises

@@ -1,6 +1,6 @@
 use Rattle.std.proofs.Common.{◌≡◌, ◌≢◌, [], length, Ok, sym, ◌∙◌, ap, arith}
 use Rattle.std.proofs.lemmas.Bool.{eqb-true, eqb-false}
-use Rattle.keep_run.proofs.Counters.{same-few}
+use Rattle.keep_event.proofs.Counters.{same-few}
 use Rattle.keep_run.proofs.Lines.{is_empty, line-done-told, line-empty-told, line-fault-told, line-refused-told, line-stops-told, not_empty}
 use Rattle.keep_run.proofs.run.run_line.Goals as goal
 

@@ -1,7 +1,7 @@
 use Rattle.std.proofs.Common.{refl, ◌∙◌, arith}
 use Rattle.keep_run.specs.Runs.{beginning}
 use Rattle.keep_run.specs.Scenes.{passage}
-use Rattle.keep_run.proofs.Counters.{few-to}
+use Rattle.keep_event.proofs.Counters.{few-to}
 use Rattle.keep_run.proofs.Lines.{scene-state}
 use Rattle.keep_run.proofs.Runs.{AllTold-map, ended-done, ended-error, ended-line, going-more, going-start}
 use Rattle.keep_run.proofs.run.run_lines.Goals as goal

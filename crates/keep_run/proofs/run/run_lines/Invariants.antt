@@ -1,7 +1,8 @@
 use Rattle.std.proofs.Common.{◌≡◌, ◌≤◌, ◌*◌, ◌-◌, None, length}
 use Rattle.keep_base.specs.Lines.{lines_left, lines_failed, lines_taken, lines_number, lines_source, lines_name}
 use Rattle.keep_volume.specs.Calls.{state_of}
-use Rattle.keep_run.specs.Scenes.{CountersUpTo, IsStageOf, passage}
+use Rattle.keep_event.specs.Counters.{CountersUpTo}
+use Rattle.keep_run.specs.Scenes.{IsStageOf, passage}
 use Rattle.keep_run.specs.Runs.{AllTold, Going, beginning}
 use Rattle.keep_run.proofs.run.run_lines.Given as goal
 

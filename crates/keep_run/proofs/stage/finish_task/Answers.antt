@@ -7,7 +7,7 @@ use Rattle.keep_history.specs.declared.task.Command.TheVariants as C
 use Rattle.keep_run.specs.Asked.{IsTaskDone, IsTaskStopped, turn}
 use Rattle.keep_run.specs.Commands.{StopsCommand, open_task_of}
 use Rattle.keep_run.specs.Scenes.{cluster}
-use Rattle.keep_run.proofs.Counters.{same-few}
+use Rattle.keep_event.proofs.Counters.{same-few}
 use Rattle.keep_run.proofs.Commands.{does-task, done-stopped, refuses-finish, stops-before, stops-task, with_name-twice}
 use Rattle.keep_run.proofs.Askable.{ended-askable, found-askable, gone-askable}
 use Rattle.keep_run.proofs.Replies.{none_when, on_err}

@@ -4,7 +4,7 @@ use Rattle.keep_history.specs.Names.{with_name}
 use Rattle.keep_history.specs.Printed.{end_line}
 use Rattle.keep_history.specs.declared.task.Command.TheVariants as C
 use Rattle.keep_run.specs.Commands.{StopsCommand}
-use Rattle.keep_run.proofs.Counters.{same-few}
+use Rattle.keep_event.proofs.Counters.{same-few}
 use Rattle.keep_run.proofs.Commands.{does-open-task, does-open-ended, stops-before}
 use Rattle.keep_run.proofs.Askable.{ended-askable, open-askable, opened-askable}
 use Rattle.keep_run.proofs.Replies.{on_err}

@@ -10,7 +10,7 @@ use Rattle.keep_event.specs.declared.table.TableAnswer.{TableAnswer}
 use Rattle.keep_event.specs.declared.table.TableAnswer.TheVariants.{TooManyVersions}
 use Rattle.keep_event.specs.declared.table.TableQuery.{TableQuery}
 use Rattle.keep_event.specs.declared.table.TableQuery.TheVariants as TQ
-use Rattle.keep_run.specs.Scenes.{CountersUpTo, RisesByOne}
+use Rattle.keep_event.specs.Counters.{CountersUpTo, RisesByOne}
 
 module _ (s : State) where
   abbrev Rises : Reply → Type 0
