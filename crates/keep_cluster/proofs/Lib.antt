@@ -1,0 +1,4 @@
+mod Counts
+pub mod Devices
+mod Replies
+mod Worlds

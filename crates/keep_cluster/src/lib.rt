@@ -1,0 +1,9 @@
+//! The port of a run: the devices of a configuration over their stores, and the table of collections.
+#![tactic(auto)]
+
+mod asking;
+mod cluster;
+#[cfg(test)]
+mod tests;
+
+pub use cluster::{Cluster, device_rules};
