@@ -1,6 +1,10 @@
 pub mod Counts
-pub mod InPlace
+pub mod Keyed
 pub mod Orderly
+pub mod Places
 pub mod ReadCases
+pub mod Renewals
+pub mod Steps
 pub mod Updates
 pub mod Versions
+pub mod Walks

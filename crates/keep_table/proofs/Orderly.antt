@@ -1,9 +1,9 @@
 -- Records stay in the order of their revisions, and of each collection at most one stays current.
-use Rattle.std.proofs.Common.{◌≡◌, ◌≤◌, ◌<◌, ◌+◌, ℕ, List, [], ◌∷◌, ◌++◌, map, filter, count_by, take, max, Bool, true, false, cond, arith, refl, sym, ap, ◌∙◌, zero, suc, nat_eq}
+use Rattle.std.proofs.Common.{◌≡◌, ◌≤◌, ◌<◌, ◌+◌, ℕ, List, [], ◌∷◌, ◌++◌, map, filter, count_by, take, max, Bool, true, false, cond, arith, refl, sym, ap, ◌∙◌, zero, suc, nat_eq, not}
 use Rattle.std.specs.Prelude.{nat_lt, Option, None, Some, Ok, Err}
 use Rattle.std.specs.List.{find}
 use Rattle.std.specs.List.{AllByRecursion}
-use Rattle.std.proofs.lemmas.Bool.{and_left, and_right, ne_eqb, eqb-true, ltb-true}
+use Rattle.std.proofs.lemmas.Bool.{and_left, and_right, ne_eqb, eq-eqb, eqb-true, ltb-true}
 use Rattle.keep_event.specs.Table.{State, superseded, is_current_of, is_of, is_current, is_held, row_of, rows_above, with_times, collection_of, updatable}
 use Rattle.keep_event.specs.declared.table.Record.{Record}
 use Rattle.keep_event.specs.declared.table.Collection.{Collection}
@@ -238,3 +238,18 @@ found-of n reading token number s x (Some y) is h e = found-drawn n number s.col
 
 pub updatable-drawn : (n reading : ℕ) (token : TokenId) (number : ℕ) (s : State) (x : Collection) → AreDrawn n s.collections → updatable reading token number s ≡ Ok x → number ≤ n
 updatable-drawn n reading token number s x h e = found-of n reading token number s x (collection_of number s) refl h e
+
+-- ---- numbers that are drawn next
+
+pub collections-below : (n : ℕ) (xs : List Collection) → AreDrawn n xs → AllByRecursion (λ x. x.number < n + 1) xs
+collections-below n [] h = tt
+collections-below n (x ∷ xs) h = (omega (arith, h.0), collections-below n xs h.1)
+
+pub records-below : (n m : ℕ) (rs : List Record) → AllByRecursion (IsDrawn n m) rs → AllByRecursion (λ r. r.revision < m + 1) rs
+records-below n m [] h = tt
+records-below n m (r ∷ rs) h = (omega (arith, h.0.revision), records-below n m rs h.1)
+
+-- a collection that was just added is taken out again
+pub collection-undone : (n : ℕ) (xs : List Collection) (x : Collection) → x.number ≡ n + 1 → AreDrawn n xs → filter (λ y. not (nat_eq y.number (n + 1))) (xs ++ x ∷ []) ≡ xs
+collection-undone n [] x e h = rw (eq-eqb x.number (n + 1) e) refl
+collection-undone n (y ∷ xs) x e h = rw (ne_eqb y.number (n + 1) (λ e. omega (arith, h.0))) (ap (λ ys. y ∷ ys) (collection-undone n xs x e h.1))

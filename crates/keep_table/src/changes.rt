@@ -1,23 +1,17 @@
-// What the calls of the table do to its lists.
-ghost use Rattle.std.specs.Prelude.{◌≡◌, ◌==◌, ◌<◌, ◌≤◌, ◌*◌, ◌/◌, ◌^◌, ◌++◌, ◌∷◌, [], vec_len, length, take, nat_lt, nat_le, Option, option_map, IfOk, map, Some, None, count_by, filter, not, ◌&&◌};
-ghost use Rattle.std.specs.List.{find};
+// What the calls of the table do to its records and collections.
+ghost use Rattle.std.specs.Prelude.{◌≡◌, ◌==◌, ◌<◌, ◌≤◌, ◌*◌, ◌/◌, ◌^◌, ◌++◌, ◌∷◌, [], length, take, nat_lt, nat_le, Option, option_map, IfOk, map, Some, None, count_by, filter, not, ◌&&◌, true, is_ok, if◌then◌else◌};
+ghost use Rattle.std.specs.List.{find, AllByRecursion};
 ghost use Rattle.std.specs.Option.{option_map_or};
-ghost use Rattle.std.specs.Vec.{vec_capacity};
 ghost use Rattle.keep_event.specs.Table as machine;
 ghost use Rattle.keep_spec.specs.Times.{IsReading};
+ghost use Rattle.keep_table.specs.Contents.{RisesAbove};
+ghost use Rattle.keep_table.specs.Maps.{revisions_of};
 
+use crate::collections::Collections;
+use crate::records::Records;
 use keep_event::{Collection, NewRecord, Record, ScanRow, Standing, TableAnswer, TableRules};
 use keep_spec::{Items, NANOS_PER_SECOND, NoMemory, TokenId, grace_nanos};
 use std::alloc::Global;
-
-pub(crate) fn push_in_room<X: Drop>(items: &mut Vec<X>, item: X)
-    requires { vec_len items.old < vec_capacity items.old }
-    ensures { items.new.items ≡ items.old.items ++ item ∷ [] }
-{
-    if items.push(item).is_err() {
-        unreachable!()
-    }
-}
 
 pub(crate) fn new_record(number: u64, version: u64, revision: u64, made: NewRecord) -> Record
     ensures { result ≡ machine.new_record number version revision made }
@@ -42,56 +36,6 @@ pub(crate) fn new_collection(number: u64, owner: TokenId) -> Collection
     }
 }
 
-pub(crate) fn collection_of(collections: &[Collection], number: u64) -> Option<Collection>
-    ensures { result ≡ find (λ x. x.number == number) collections.now }
-{
-    for collection in collections {
-        if collection.number == number {
-            return Some(*collection);
-        }
-    }
-    None
-}
-
-/// Sets both times of the collection with this number.
-pub(crate) fn set_times(
-    collections: &mut Vec<Collection>,
-    number: u64,
-    trash_at: Option<u64>,
-    delete_at: Option<u64>,
-)
-    ensures { collections.new.items ≡ map (machine.with_times number trash_at delete_at) collections.old.items }
-{
-    set_times_of_each(collections, number, trash_at, delete_at);
-}
-
-fn set_times_of_each(
-    collections: &mut [Collection],
-    number: u64,
-    trash_at: Option<u64>,
-    delete_at: Option<u64>,
-)
-    ensures { collections.new ≡ map (machine.with_times number trash_at delete_at) collections.old }
-{
-    for collection in collections.iter_mut() {
-        set_times_of(collection, number, trash_at, delete_at);
-    }
-}
-
-fn set_times_of(
-    collection: &mut Collection,
-    number: u64,
-    trash_at: Option<u64>,
-    delete_at: Option<u64>,
-)
-    ensures { collection.new ≡ machine.with_times number trash_at delete_at collection.old }
-{
-    if collection.number == number {
-        collection.trash_at = trash_at;
-        collection.delete_at = delete_at;
-    }
-}
-
 pub(crate) fn is_current(standing: &Standing) -> bool
     ensures { result ≡ machine.is_current standing.now }
 {
@@ -113,11 +57,13 @@ pub(crate) fn is_due(reading: u64, standing: &Standing) -> bool
 }
 
 /// Returns how many versions of a collection aren't due at a reading.
-pub(crate) fn versions_held(records: &[Record], reading: u64, number: u64) -> u64
+pub(crate) fn versions_held(records: &Records, reading: u64, number: u64) -> u64
     ensures { result ≡ count_by (machine.is_held reading number) records.now }
 {
     let mut held = 0;
-    for row in records {
+    let mut after = 0;
+    while let Some(row) = records.next_of(number, after) {
+        after = row.revision;
         if is_held(reading, number, row) {
             held += 1;
         }
@@ -146,41 +92,48 @@ pub(crate) fn is_owner(token: TokenId, collection: &Collection) -> bool
     token.number == 0 || token.number == collection.owner.number
 }
 
-/// Makes the current record of a collection a version.
-pub(crate) fn supersede(records: &mut Vec<Record>, number: u64, standing: Standing)
-    ensures after { records.new.items ≡ map (machine.superseded number standing) records.old.items }
-    ensures len { vec_len records.new ≡ vec_len records.old }
-    ensures capacity { vec_capacity records.new ≡ vec_capacity records.old }
-{
-    supersede_each(records, number, standing);
-}
-
-fn supersede_each(records: &mut [Record], number: u64, standing: Standing)
-    ensures { records.new ≡ map (machine.superseded number standing) records.old }
-{
-    for row in records.iter_mut() {
-        supersede_one(row, number, standing);
-    }
-}
-
-fn supersede_one(row: &mut Record, number: u64, standing: Standing)
-    ensures { row.new ≡ machine.superseded number standing row.old }
-{
-    if row.collection == number && is_current(&row.standing) {
-        row.standing = standing;
-    }
-}
-
 /// Returns the version of a collection's current record, or 0 where it has none.
-pub(crate) fn current_version(records: &[Record], number: u64) -> u64
+pub(crate) fn current_version(records: &Records, number: u64) -> u64
     ensures { result ≡ option_map_or (λ r. r.version) (find (machine.is_current_of number) records.now) 0 }
 {
-    for row in records {
-        if row.collection == number && is_current(&row.standing) {
-            return row.version;
-        }
+    match version_of(records, number, None) {
+        Some(row) => row.version,
+        None => 0,
     }
-    0
+}
+
+/// Returns the revision of a collection's current record, or 0 where it has none.
+fn current_revision(records: &Records, number: u64) -> u64
+    ensures { result ≡ option_map_or (λ r. r.revision) (find (machine.is_current_of number) records.now) 0 }
+{
+    match version_of(records, number, None) {
+        Some(row) => row.revision,
+        None => 0,
+    }
+}
+
+/// Makes a record the current one of its collection: the versions that are due go, and the current record becomes a version. Where memory is refused, nothing changes.
+pub(crate) fn renew(
+    records: &mut Records,
+    reading: u64,
+    standing: Standing,
+    row: Record,
+) -> Result<(), NoMemory>
+    requires positive { 0 < row.revision }
+    requires newest { AllByRecursion (λ r. r.revision < row.revision) records.old }
+    requires rising { RisesAbove 0 (revisions_of records.old) }
+    requires current { machine.is_current row.standing ≡ true }
+    requires one_current { count_by (machine.is_current_of row.collection) records.old ≤ 1 }
+    ensures { records.new ≡ (if is_ok result then map (machine.superseded row.collection standing) (filter (λ r. not (machine.is_due_of reading row.collection r)) records.old) ++ row ∷ [] else records.old) }
+{
+    let number = row.collection;
+    let before = current_revision(records, number);
+    if records.add(row).is_err() {
+        return Err(NoMemory);
+    }
+    drop_due(records, reading, number);
+    records.mark(before, standing);
+    Ok(())
 }
 
 fn is_due_of(reading: u64, number: u64, row: &Record) -> bool
@@ -190,12 +143,17 @@ fn is_due_of(reading: u64, number: u64, row: &Record) -> bool
 }
 
 /// Removes the versions of a collection that are due at a reading.
-pub(crate) fn drop_due(records: &mut Vec<Record>, reading: u64, number: u64)
-    ensures after { records.new.items ≡ filter (λ r. not (machine.is_due_of reading number r)) records.old.items }
-    ensures len { vec_len records.new ≤ vec_len records.old }
-    ensures capacity { vec_capacity records.new ≡ vec_capacity records.old }
+fn drop_due(records: &mut Records, reading: u64, number: u64)
+    requires { RisesAbove 0 (revisions_of records.old) }
+    ensures { records.new ≡ filter (λ r. not (machine.is_due_of reading number r)) records.old }
 {
-    records.retain(|row| !is_due_of(reading, number, row));
+    let mut after = 0;
+    while let Some(row) = records.next_of(number, after) {
+        after = row.revision;
+        if is_due_of(reading, number, row) {
+            records.drop_one(after);
+        }
+    }
 }
 
 fn is_gone(reading: u64, collection: &Collection) -> bool
@@ -207,52 +165,51 @@ fn is_gone(reading: u64, collection: &Collection) -> bool
     }
 }
 
-/// Returns how many collections a sweep at a reading removes.
-pub(crate) fn count_gone(collections: &[Collection], reading: u64) -> u64
-    ensures { result ≡ count_by (machine.is_gone reading) collections.now }
+/// Removes the collections that go at a reading, and returns how many went.
+pub(crate) fn drop_gone(collections: &mut Collections, reading: u64) -> u64
+    ensures gone { result ≡ count_by (machine.is_gone reading) collections.old }
+    ensures rest { collections.new ≡ filter (λ x. not (machine.is_gone reading x)) collections.old }
 {
-    let mut gone = 0;
-    for collection in collections {
-        if is_gone(reading, collection) {
-            gone += 1;
+    let before = collections.len();
+    let mut after = 0;
+    while let Some(collection) = collections.next_above(after) {
+        after = collection.number;
+        if is_gone(reading, &collection) {
+            collections.drop_one(after);
         }
     }
-    gone
+    (before - collections.len()) as u64
 }
 
-pub(crate) fn drop_gone(collections: &mut Vec<Collection>, reading: u64)
-    ensures { collections.new.items ≡ filter (λ x. not (machine.is_gone reading x)) collections.old.items }
-{
-    collections.retain(|collection| !is_gone(reading, collection));
-}
-
-fn goes(reading: u64, collections: &[Collection], row: &Record) -> bool
+fn goes(reading: u64, collections: &Collections, row: &Record) -> bool
     ensures { result ≡ machine.goes reading collections.now row.now }
 {
-    match collection_of(collections, row.collection) {
+    match collections.get(row.collection) {
         Some(collection) => is_gone(reading, &collection),
         None => false,
     }
 }
 
-fn is_swept(reading: u64, collections: &[Collection], row: &Record) -> bool
+fn is_swept(reading: u64, collections: &Collections, row: &Record) -> bool
     ensures { result ≡ machine.is_swept reading collections.now row.now }
 {
     !goes(reading, collections, row) && is_due(reading, &row.standing)
 }
 
-fn outlasts(reading: u64, collections: &[Collection], row: &Record) -> bool
+fn outlasts(reading: u64, collections: &Collections, row: &Record) -> bool
     ensures { result ≡ machine.outlasts reading collections.now row.now }
 {
     !goes(reading, collections, row) && !is_due(reading, &row.standing)
 }
 
 /// Returns how many versions are due at a reading whose collections stay.
-pub(crate) fn count_swept(records: &[Record], collections: &[Collection], reading: u64) -> u64
+pub(crate) fn count_swept(records: &Records, collections: &Collections, reading: u64) -> u64
     ensures { result ≡ count_by (machine.is_swept reading collections.now) records.now }
 {
     let mut swept = 0;
-    for row in records {
+    let mut after = 0;
+    while let Some(row) = records.next_above(after) {
+        after = row.revision;
         if is_swept(reading, collections, row) {
             swept += 1;
         }
@@ -260,10 +217,18 @@ pub(crate) fn count_swept(records: &[Record], collections: &[Collection], readin
     swept
 }
 
-pub(crate) fn drop_swept(records: &mut Vec<Record>, collections: &[Collection], reading: u64)
-    ensures { records.new.items ≡ filter (machine.outlasts reading collections.now) records.old.items }
+/// Removes the versions that are due at a reading, and the records whose collections go.
+pub(crate) fn drop_swept(records: &mut Records, collections: &Collections, reading: u64)
+    requires { RisesAbove 0 (revisions_of records.old) }
+    ensures { records.new ≡ filter (machine.outlasts reading collections.now) records.old }
 {
-    records.retain(|row| outlasts(reading, collections, row));
+    let mut after = 0;
+    while let Some(row) = records.next_above(after) {
+        after = row.revision;
+        if !outlasts(reading, collections, row) {
+            records.drop_one(after);
+        }
+    }
 }
 
 /// Returns the standing of a record that is superseded at a reading.
@@ -304,13 +269,15 @@ fn is_preserved(standing: &Standing) -> bool
 }
 
 /// Returns a collection's current record, or the version asked for where it can be read.
-pub(crate) fn version_of(records: &[Record], number: u64, version: Option<u64>) -> Option<&Record>
+pub(crate) fn version_of(records: &Records, number: u64, version: Option<u64>) -> Option<&Record>
     ensures { option_map (λ r. r.now) result ≡ find (machine.is_readable number version) records.now }
 {
-    for row in records {
+    let mut after = 0;
+    while let Some(row) = records.next_of(number, after) {
         if is_readable(number, version, row) {
             return Some(row);
         }
+        after = row.revision;
     }
     None
 }
@@ -384,7 +351,7 @@ fn row_of(alloc: Global, row: &Record) -> Result<ScanRow, NoMemory>
 /// Returns the first rows above a revision, at most `limit` of them, and whether there are no more.
 pub(crate) fn rows_after(
     alloc: Global,
-    records: &[Record],
+    records: &Records,
     after: u64,
     limit: usize,
 ) -> Result<(Items<ScanRow>, bool), NoMemory>
@@ -392,16 +359,16 @@ pub(crate) fn rows_after(
     ensures last { IfOk result (λ r. r.1 ≡ nat_le (length (machine.rows_above after records.now)) limit) }
 {
     let mut rows = Vec::new(alloc);
-    for row in records {
-        if row.revision > after {
-            if rows.len() >= limit {
-                return Ok((Items::of(rows), false));
-            }
-            let next = row_of(alloc, row)?;
-            if rows.push(next).is_err() {
-                return Err(NoMemory);
-            }
+    let mut at = after;
+    while let Some(row) = records.next_above(at) {
+        if rows.len() >= limit {
+            return Ok((Items::of(rows), false));
         }
+        let next = row_of(alloc, row)?;
+        if rows.push(next).is_err() {
+            return Err(NoMemory);
+        }
+        at = row.revision;
     }
     Ok((Items::of(rows), true))
 }

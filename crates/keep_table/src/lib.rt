@@ -1,7 +1,9 @@
-//! The table of collections: their records over plain lists, each call one line of the table machine.
+//! The table of collections: their records over ordered maps, each call one line of the table machine.
 #![tactic(auto)]
 
 mod changes;
+mod collections;
+mod records;
 mod table;
 
 pub use keep_event::{

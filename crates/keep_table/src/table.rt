@@ -1,6 +1,8 @@
 // The table and its calls.
 use crate::changes;
-use keep_event::{Collection, NewRecord, Record, Standing, TableAnswer, TableRules};
+use crate::collections::Collections;
+use crate::records::Records;
+use keep_event::{Collection, NewRecord, TableAnswer, TableRules};
 use keep_spec::{NoMemory, TokenId, grace_nanos, guard_nanos};
 use std::alloc::Global;
 use std::marker::Model;
@@ -10,9 +12,8 @@ use std::marker::Model;
 pub struct Table {
     alloc: Global,
     rules: TableRules,
-    // in the order in which they were made
-    records: Vec<Record>,
-    collections: Vec<Collection>,
+    records: Records,
+    collections: Collections,
     // how many were drawn
     numbers: u64,
     revisions: u64,
@@ -24,9 +25,9 @@ impl Model for Table {
 
     ghost Value = { Contents };
 
-    ghost view = { λ t. record { rules = t.rules; state = record { records = t.records.items; collections = t.collections.items; numbers = t.numbers; revisions = t.revisions; rounds = t.rounds } } };
+    ghost view = { λ t. record { rules = t.rules; state = record { records = t.records; collections = t.collections; numbers = t.numbers; revisions = t.revisions; rounds = t.rounds } } };
 
-    ghost invariant = { λ t. AreOrderly t.numbers t.revisions t.records.items × AreDrawn t.numbers t.collections.items };
+    ghost invariant = { λ t. AreOrderly t.numbers t.revisions t.records × AreDrawn t.numbers t.collections };
 }
 
 impl Table {
@@ -44,8 +45,8 @@ impl Table {
         Table {
             alloc,
             rules,
-            records: Vec::new(alloc),
-            collections: Vec::new(alloc),
+            records: Records::new(alloc),
+            collections: Collections::new(alloc),
             numbers: 0,
             revisions: 0,
             rounds: 0,
@@ -80,17 +81,20 @@ impl Table {
         requires owner { owner.number ≤ self.old.rules.tokens }
         ensures { IsLine (machine.create owner made self.old.state) self.old self.new result }
     {
-        if self.records.reserve(1).is_err() || self.collections.reserve(1).is_err() {
-            return Err(NoMemory);
-        }
         let portable = made.portable;
         let number = self.numbers + 1;
+        if self
+            .collections
+            .add(changes::new_collection(number, owner))
+            .is_err()
+        {
+            return Err(NoMemory);
+        }
         let record = changes::new_record(number, 1, self.revisions + 1, made);
-        changes::push_in_room(&mut self.records, record);
-        changes::push_in_room(
-            &mut self.collections,
-            changes::new_collection(number, owner),
-        );
+        if self.records.add(record).is_err() {
+            self.collections.drop_one(number);
+            return Err(NoMemory);
+        }
         self.numbers = number;
         self.revisions += 1;
         Ok(TableAnswer::Saved {
@@ -104,7 +108,7 @@ impl Table {
     fn owned(&self, token: TokenId, number: u64) -> Result<Collection, TableAnswer>
         ensures { result ≡ machine.owned token number self.now.state }
     {
-        let Some(collection) = changes::collection_of(&self.collections, number) else {
+        let Some(collection) = self.collections.get(number) else {
             return Err(TableAnswer::NoSuch);
         };
         if changes::is_owner(token, &collection) {
@@ -134,12 +138,8 @@ impl Table {
         let delete_at = delete_at
             .max(reading + grace_nanos(self.rules.ttl, self.rules.skew))
             .max(trash_at + guard_nanos(self.rules.skew));
-        changes::set_times(
-            &mut self.collections,
-            collection,
-            Some(trash_at),
-            Some(delete_at),
-        );
+        self.collections
+            .set_times(collection, Some(trash_at), Some(delete_at));
         Ok(TableAnswer::TrashSet {
             trash_at,
             delete_at,
@@ -159,7 +159,7 @@ impl Table {
         if let Err(refusal) = self.owned(token, collection) {
             return Ok(refusal);
         }
-        changes::set_times(&mut self.collections, collection, None, None);
+        self.collections.set_times(collection, None, None);
         Ok(TableAnswer::Restored)
     }
 
@@ -198,9 +198,8 @@ impl Table {
         ensures { IsLine (machine.sweep reading self.old.state) self.old self.new result }
     {
         let versions = changes::count_swept(&self.records, &self.collections, reading);
-        let collections = changes::count_gone(&self.collections, reading);
         changes::drop_swept(&mut self.records, &self.collections, reading);
-        changes::drop_gone(&mut self.collections, reading);
+        let collections = changes::drop_gone(&mut self.collections, reading);
         Ok(TableAnswer::Swept {
             versions,
             collections,
@@ -231,16 +230,13 @@ impl Table {
         if held >= u64::from(self.rules.versions) {
             return Ok(TableAnswer::TooManyVersions { held });
         }
-        if self.records.reserve(1).is_err() {
-            return Err(NoMemory);
-        }
         let portable = made.portable;
         let version = changes::current_version(&self.records, collection) + 1;
         let standing = changes::kept_until(&self.rules, reading, preserve);
-        changes::drop_due(&mut self.records, reading, collection);
-        changes::supersede(&mut self.records, collection, standing);
         let row = changes::new_record(collection, version, self.revisions + 1, made);
-        changes::push_in_room(&mut self.records, row);
+        if changes::renew(&mut self.records, reading, standing, row).is_err() {
+            return Err(NoMemory);
+        }
         self.revisions += 1;
         Ok(TableAnswer::Updated {
             number: collection,

@@ -1,8 +1,11 @@
-use Rattle.std.proofs.Common.{◌≡◌, drop}
-use Rattle.std.specs.List.{find}
-use Rattle.keep_event.specs.Table.{is_readable}
+use Rattle.std.proofs.Common.{◌≡◌, length, filter}
+use Rattle.keep_event.specs.Table.{is_readable, is_of}
+use Rattle.keep_table.specs.Maps.{is_next}
 use Rattle.keep_table.proofs.changes.version_of.Given as goal
 
--- the records that are left decide
+-- those above the last one decide
 abbrev pub invariant-loop-row : goal.invariant-loop-row
-invariant-loop-row l = find (is_readable l.number l.version) (drop l.row-index l.records) ≡ find (is_readable l.number l.version) l.records
+invariant-loop-row l = filter (is_next (is_readable l.number l.version) l.after) l.records ≡ filter (is_next (is_readable l.number l.version) 0) l.records
+
+abbrev pub decreases-loop-row : goal.decreases-loop-row
+decreases-loop-row l = length (filter (is_next (is_of l.number) l.after) l.records)

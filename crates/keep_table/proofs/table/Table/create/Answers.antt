@@ -1,19 +1,28 @@
-use Rattle.std.proofs.Common.{refl, arith}
+use Rattle.std.proofs.Common.{◌≡◌, ◌+◌, ◌++◌, ◌∷◌, [], refl, arith, ◌∙◌, ap, sym, not, filter, is_ok, nat_eq}
+use Rattle.std.proofs.lemmas.Bool.{cond-true, cond-false}
 use Rattle.keep_event.specs.Table as machine
-use Rattle.keep_table.proofs.Orderly.{orderly-created, collections-created}
+use Rattle.keep_table.proofs.Orderly.{orderly-created, collections-created, collection-undone}
 use Rattle.keep_table.proofs.table.Table.create.Goals as goal
+
+pub invariant_of-self-then-is_err-2 : goal.invariant_of-self-then-is_err-2
+invariant_of-self-then-is_err-2 c =
+    let with_it : c.add.new.self ≡ c.self.inside.collections ++ machine.new_collection (c.self.inside.numbers + 1) c.args.owner ∷ [] = c.add.ensures ∙ cond-true (is_ok c.add.result) _ _ (c.is_err.ensures.negation ∙ ap not c.if-is_err.false) ∙ ap (λ x. c.self.inside.collections ++ x ∷ []) c.new_collection.ensures in
+    let undone : c.drop_one.new.self ≡ c.self.inside.collections = c.drop_one.ensures ∙ ap (λ xs. filter (λ x. not (nat_eq x.number (c.self.inside.numbers + 1))) xs) with_it ∙ collection-undone c.self.inside.numbers c.self.inside.collections (machine.new_collection (c.self.inside.numbers + 1) c.args.owner) refl c.self.invariant.1 in
+    let same : c.add-2.new.self ≡ c.self.inside.records = c.add-2.ensures ∙ cond-false (is_ok c.add-2.result) _ _ (c.is_err-2.ensures.negation ∙ ap not c.if-is_err-2.true) in
+    rw (undone, same) c.self.invariant
+
+pub returns-then-is_err-2 : goal.returns-then-is_err-2
+returns-then-is_err-2 c =
+    let with_it : c.add.new.self ≡ c.self.inside.collections ++ machine.new_collection (c.self.inside.numbers + 1) c.args.owner ∷ [] = c.add.ensures ∙ cond-true (is_ok c.add.result) _ _ (c.is_err.ensures.negation ∙ ap not c.if-is_err.false) ∙ ap (λ x. c.self.inside.collections ++ x ∷ []) c.new_collection.ensures in
+    let undone : c.drop_one.new.self ≡ c.self.inside.collections = c.drop_one.ensures ∙ ap (λ xs. filter (λ x. not (nat_eq x.number (c.self.inside.numbers + 1))) xs) with_it ∙ collection-undone c.self.inside.numbers c.self.inside.collections (machine.new_collection (c.self.inside.numbers + 1) c.args.owner) refl c.self.invariant.1 in
+    let same : c.add-2.new.self ≡ c.self.inside.records = c.add-2.ensures ∙ cond-false (is_ok c.add-2.result) _ _ (c.is_err-2.ensures.negation ∙ ap not c.if-is_err-2.true) in
+    rw (← c.self.view_is, undone, same) refl
 
 pub invariant_of-self-2 : goal.invariant_of-self-2
 invariant_of-self-2 c =
-    rw (c.push_in_room.ensures, c.push_in_room-2.ensures, c.new_record-record.ensures, c.new_collection.ensures, c.reserve.ensures.items, c.reserve-else-is_err.ensures.items) (
-      orderly-created c.self.inside.numbers c.self.inside.revisions c.self.inside.records.items _ refl (omega arith) refl c.self.invariant.0,
-      collections-created c.self.inside.numbers c.self.inside.collections.items _ refl c.self.invariant.1,
+    let collections : c.add.new.self ≡ c.self.inside.collections ++ machine.new_collection (c.self.inside.numbers + 1) c.args.owner ∷ [] = c.add.ensures ∙ cond-true (is_ok c.add.result) _ _ (c.is_err.ensures.negation ∙ ap not c.if-is_err.false) ∙ ap (λ x. c.self.inside.collections ++ x ∷ []) c.new_collection.ensures in
+    let records : c.add-2.new.self ≡ c.self.inside.records ++ machine.new_record (c.self.inside.numbers + 1) 1 (c.self.inside.revisions + 1) c.args.made ∷ [] = c.add-2.ensures ∙ cond-true (is_ok c.add-2.result) _ _ (c.is_err-2.ensures.negation ∙ ap not c.if-is_err-2.false) ∙ ap (λ x. c.self.inside.records ++ x ∷ []) c.new_record-record.ensures in
+    rw (collections, records) (
+      orderly-created c.self.inside.numbers c.self.inside.revisions c.self.inside.records _ refl (omega arith) refl c.self.invariant.0,
+      collections-created c.self.inside.numbers c.self.inside.collections _ refl c.self.invariant.1,
     )
-
-pub returns : goal.returns
-unfolding machine.create
-returns c = rw (← c.self.view_is) (record {
-  answered = refl;
-  changed = rw (c.push_in_room.ensures, c.push_in_room-2.ensures, c.new_record-record.ensures, c.new_collection.ensures, c.reserve.ensures.items, c.reserve-else-is_err.ensures.items) refl;
-  rules = refl;
-})

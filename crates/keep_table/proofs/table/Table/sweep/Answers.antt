@@ -3,7 +3,7 @@ use Rattle.keep_table.proofs.table.Table.sweep.Goals as goal
 
 pub invariant_of-self : goal.invariant_of-self
 invariant_of-self c =
-    rw (c.drop_swept.ensures, c.drop_gone.ensures) (
-      orderly-filter c.self.inside.numbers c.self.inside.revisions _ c.self.inside.records.items c.self.invariant.0,
-      collections-filter c.self.inside.numbers _ c.self.inside.collections.items c.self.invariant.1,
+    rw (c.drop_swept.ensures, c.drop_gone-collections.ensures.rest) (
+      orderly-filter c.self.inside.numbers c.self.inside.revisions _ c.self.inside.records c.self.invariant.0,
+      collections-filter c.self.inside.numbers _ c.self.inside.collections c.self.invariant.1,
     )

@@ -1,7 +1,0 @@
-use Rattle.std.proofs.Common.{◌≡◌, ◌==◌, drop}
-use Rattle.std.specs.List.{find}
-use Rattle.keep_table.proofs.changes.collection_of.Given as goal
-
--- the collections that are left decide
-abbrev pub invariant-loop-collection : goal.invariant-loop-collection
-invariant-loop-collection l = find (λ x. x.number == l.number) (drop l.collection-index l.collections) ≡ find (λ x. x.number == l.number) l.collections

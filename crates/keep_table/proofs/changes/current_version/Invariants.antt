@@ -1,8 +1,0 @@
-use Rattle.std.proofs.Common.{◌≡◌, drop}
-use Rattle.std.specs.List.{find}
-use Rattle.keep_event.specs.Table.{is_current_of}
-use Rattle.keep_table.proofs.changes.current_version.Given as goal
-
--- the records that are left decide
-abbrev pub invariant-loop-row : goal.invariant-loop-row
-invariant-loop-row l = find (is_current_of l.number) (drop l.row-index l.records) ≡ find (is_current_of l.number) l.records
