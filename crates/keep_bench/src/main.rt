@@ -1,6 +1,7 @@
 //! Times what a library does alone: takes the name of a task, reads its input from standard input, and prints a few counts.
 #![tactic(auto)]
 
+mod files;
 mod wire;
 
 use anyhow::Result;
@@ -252,6 +253,9 @@ fn main(rt: HostRuntime) -> Result<()> {
             "index" => index(&rt, &input, true)?,
             "read-index" => index(&rt, &input, false)?,
             "lists" => lists(&rt, &input)?,
+            "make-files" => files::make(&rt, &input)?,
+            "pack" => files::pack(&rt, &input)?,
+            "unpack" => files::pack_and_unpack(&rt, &input)?,
             _ => println!(rt; "no task {task}")?,
         }
     }

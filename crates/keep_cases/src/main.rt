@@ -13,6 +13,7 @@ mod locators;
 mod manifests;
 mod names;
 mod orders;
+mod packs;
 mod printed;
 mod runs;
 mod signing;

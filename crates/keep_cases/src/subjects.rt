@@ -2,8 +2,8 @@
 use crate::answer::Answer;
 use crate::book::Case;
 use crate::{
-    configurations, devices, indexes, lists, locators, manifests, names, orders, printed, runs,
-    signing, statuses, tables, texts, wire,
+    configurations, devices, indexes, lists, locators, manifests, names, orders, packs, printed,
+    runs, signing, statuses, tables, texts, wire,
 };
 use std::alloc::Global;
 
@@ -24,6 +24,7 @@ pub fn answer_to(alloc: Global, subject: &str, case: &Case, answer: &mut Answer)
         "names" => names::answer(alloc, case, answer),
         "normals" => manifests::answer(alloc, subject, case, answer),
         "orders" => orders::answer(alloc, case, answer),
+        "packs" => packs::answer(alloc, case, answer),
         "portables" => texts::answer(subject, case, answer),
         "printed" => printed::answer(alloc, case, answer),
         "requests" => wire::answer(alloc, subject, case, answer),
@@ -33,6 +34,7 @@ pub fn answer_to(alloc: Global, subject: &str, case: &Case, answer: &mut Answer)
         "signed" => signing::answer_signed(alloc, case, answer),
         "statuses" => statuses::answer(alloc, case, answer),
         "tables" => tables::answer(alloc, case, answer),
+        "unpacks" => packs::answer_manifest(alloc, case, answer),
         "uuids" => texts::answer(subject, case, answer),
         "verdicts" => signing::answer_verdicts(case, answer),
         _ => return false,
