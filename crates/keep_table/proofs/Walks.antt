@@ -1,5 +1,5 @@
 -- A walk over records in the order of their revisions.
-use Rattle.std.proofs.Common.{◌≡◌, ◌<◌, ◌≤◌, ◌+◌, ◌&&◌, ◌||◌, ℕ, List, [], ◌∷◌, Bool, true, false, cond, not, map, filter, length, nat_eq, Option, Some, None, refl, ap, sym, ◌∙◌, ◌++◌, append_assoc, append-nil, length-append, arith}
+use Rattle.std.proofs.Common.{◌≡◌, max, ◌<◌, ◌≤◌, ◌+◌, ◌&&◌, ◌||◌, ℕ, List, [], ◌∷◌, Bool, true, false, cond, not, map, filter, length, nat_eq, Option, Some, None, refl, ap, sym, ◌∙◌, ◌++◌, append_assoc, append-nil, length-append, arith}
 use Rattle.std.specs.Prelude.{count_by}
 use Rattle.std.specs.List.{find}
 use Rattle.std.proofs.lemmas.Bool.{and_parts, cond-true, cond-false}
@@ -79,3 +79,18 @@ rows-step front back all x rest whole e = rw append_assoc (ap (λ ys. front ++ y
 
 pub rows-all : (front back all : List ScanRow) → front ++ back ≡ all → back ≡ [] → front ≡ all
 rows-all front back all whole e = sym (append-nil front) ∙ ap (λ ys. front ++ ys) (sym e) ∙ whole
+
+pub rows-of-all : (rs : List Record) → RisesAbove 0 (revisions_of rs) → rows_above 0 rs ≡ map row_of rs
+rows-of-all rs h = ap (λ xs. map row_of xs) (later-all revision any_record 0 0 rs (omega arith) h ∙ all-pass rs)
+  where
+    all-pass : (rs : List Record) → filter any_record rs ≡ rs
+    all-pass [] = refl
+    all-pass (r ∷ rs) = ap (λ xs. r ∷ xs) (all-pass rs)
+
+-- ---- the greatest want
+
+pub most-next : (most here rest left all : ℕ) → max most left ≡ all → left ≡ max here rest → max (max here most) rest ≡ all
+most-next most here rest left all e is = omega arith
+
+pub most-end : (most left all whole : ℕ) → max most left ≡ all → left ≡ 0 → all ≡ whole → most ≡ whole
+most-end most left all whole e none is = omega arith

@@ -4,13 +4,15 @@ ghost use Rattle.std.specs.List.{find, AllByRecursion};
 ghost use Rattle.std.specs.Option.{option_map_or};
 ghost use Rattle.keep_event.specs.Table as machine;
 ghost use Rattle.keep_spec.specs.Times.{IsReading};
+ghost use Rattle.keep_spec.specs.Members.{names};
+ghost use Rattle.keep_event.specs.Plan.{wanted_in};
 ghost use Rattle.keep_table.specs.Contents.{RisesAbove};
 ghost use Rattle.keep_table.specs.Maps.{revisions_of};
 
 use crate::collections::Collections;
 use crate::records::Records;
 use keep_event::{Collection, NewRecord, Record, ScanRow, Standing, TableAnswer, TableRules};
-use keep_spec::{Items, NANOS_PER_SECOND, NoMemory, TokenId, grace_nanos};
+use keep_spec::{Digest, Items, NANOS_PER_SECOND, NoMemory, TokenId, grace_nanos};
 use std::alloc::Global;
 
 pub(crate) fn new_record(number: u64, version: u64, revision: u64, made: NewRecord) -> Record
@@ -280,6 +282,43 @@ pub(crate) fn version_of(records: &Records, number: u64, version: Option<u64>) -
         after = row.revision;
     }
     None
+}
+
+// Whether a digest is among those that a record names.
+fn is_named(digest: &Digest, named: &[Digest]) -> bool
+    ensures { result ≡ names digest.now named.now }
+{
+    let bytes = digest.to_md5();
+    for other in named {
+        if bytes == other.to_md5() {
+            return true;
+        }
+    }
+    false
+}
+
+/// Returns the greatest number of copies that the records want of a digest, or 0 where none names it.
+pub(crate) fn wanted(records: &Records, digest: &Digest) -> u8
+    ensures { result ≡ wanted_in digest.now (map machine.row_of records.now) }
+{
+    let mut most = 0;
+    let mut after = 0;
+    while let Some(row) = records.next_above(after) {
+        after = row.revision;
+        most = want_of(digest, row).max(most);
+    }
+    most
+}
+
+// What a record wants of a digest, or 0 where it doesn't name it.
+fn want_of(digest: &Digest, row: &Record) -> u8
+    ensures { result ≡ (if names digest.now row.now.made.named then row.now.made.want else 0) }
+{
+    if is_named(digest, row.made.named.as_slice()) {
+        row.made.want
+    } else {
+        0
+    }
 }
 
 // A reading in whole seconds.

@@ -3,7 +3,7 @@ use crate::changes;
 use crate::collections::Collections;
 use crate::records::Records;
 use keep_event::{Collection, NewRecord, TableAnswer, TableRules};
-use keep_spec::{NoMemory, TokenId, grace_nanos, guard_nanos};
+use keep_spec::{Digest, NoMemory, TokenId, grace_nanos, guard_nanos};
 use std::alloc::Global;
 use std::marker::Model;
 
@@ -31,8 +31,9 @@ impl Model for Table {
 }
 
 impl Table {
-    ghost use Rattle.std.specs.Prelude.{◌≡◌, ◌≤◌, ◌<◌, IsTrue, IfOk};
+    ghost use Rattle.std.specs.Prelude.{◌≡◌, ◌≤◌, ◌<◌, IsTrue, IfOk, map};
     ghost use Rattle.keep_event.specs.Table as machine;
+    ghost use Rattle.keep_event.specs.Plan.{wanted_in};
     ghost use Rattle.std.specs.Bool.{OnTrue};
     ghost use Rattle.keep_spec.specs.Times.{IsReading};
     ghost use Rattle.keep_table.specs.Contents.{IsReply, IsLine, is_updated, AreRowsAbove};
@@ -289,5 +290,12 @@ impl Table {
     {
         let (rows, last) = changes::rows_after(self.alloc, &self.records, after, limit as usize)?;
         Ok(TableAnswer::Rows { rows, last })
+    }
+
+    /// Returns the greatest number of copies that the held records want of a digest, whatever their standing, or 0 where none names it. Takes no memory.
+    pub fn wanted(&self, digest: &Digest) -> u8
+        ensures { result ≡ wanted_in digest.now (map machine.row_of self.now.state.records) }
+    {
+        changes::wanted(&self.records, digest)
     }
 }
