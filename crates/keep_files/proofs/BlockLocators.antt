@@ -1,6 +1,6 @@
 -- The locator of a block: it is one, and has the block's digest and size.
 -- Laws: `IsBytes-md5`, `is_locator-of`, `digest-of`, `size-of`.
-use Rattle.std.proofs.Common.{◌≡◌, ℕ, zero, suc, ◌+◌, ◌*◌, ◌<◌, ◌≤◌, ◌^◌, ◌/◌, ◌%◌, eqb, leb, true, ◌&&◌, List, [], ◌∷◌, ◌++◌, length, take, drop, get_or, refl, ap, sym, ◌∙◌, arith, length-append, rules}
+use Rattle.std.proofs.Common.{◌≡◌, ℕ, zero, suc, ◌+◌, ◌<◌, ◌^◌, eqb, leb, true, ◌&&◌, List, [], ◌∷◌, ◌++◌, length, take, drop, get_or, refl, ap, sym, ◌∙◌, arith, length-append, rules}
 use Rattle.std.specs.Prelude.{decimal, take_while, cond}
 use Rattle.std.specs.Int.{w32, byte_at, bytes_low_first, to_le_bytes}
 use Rattle.std.specs.List.{list_all}

@@ -1,17 +1,16 @@
 -- The first fault of a list of files, and the map from paths to places.
 -- Laws: `fault_name`, `fault_twice`, `fault_none`, `fault_end`, `no_fault`, `paths_good`, `has_path`, `entries_more`, `within_more`.
-use Rattle.std.proofs.Common.{◌≡◌, ℕ, ◌+◌, ◌<◌, ◌≤◌, Bool, true, false, not, ◌&&◌, ◌||◌, cond, ltb, List, [], ◌∷◌, ◌++◌, length, take, drop, get_or, map, Option, Some, None, refl, ap, sym, subst, ◌∙◌, arith}
+use Rattle.std.proofs.Common.{◌≡◌, ℕ, ◌+◌, ◌<◌, ◌≤◌, Bool, true, false, not, ◌||◌, cond, ltb, List, [], ◌∷◌, ◌++◌, length, take, drop, get_or, map, Option, Some, None, refl, ap, sym, ◌∙◌, arith}
 use Rattle.std.specs.Prelude.{fold, is_some}
 use Rattle.std.specs.Option.{option_map}
 use Rattle.std.specs.Ordering.{match_ordering}
 use Rattle.std.specs.declared.cmp.Ordering.{Ordering}
 use Rattle.std.specs.declared.cmp.Ordering.TheVariants.{Less, Equal, Greater}
 use Rattle.std.specs.List.{list_all, list_any}
-use Rattle.std.specs.Map.{lookup}
 use Rattle.std.specs.BTreeMap.{insert_entry}
 use Rattle.std.specs.Str.{bytes_eq}
 use Rattle.std.proofs.lemmas.Bool.{and_parts, and_from}
-use Rattle.std.proofs.lemmas.List.{at_drop_more, at_drop_all, map_more, take_all, length-take, length-map}
+use Rattle.std.proofs.lemmas.List.{at_drop_more, at_drop_all, map_more, length-take, length-map}
 use Rattle.std.proofs.lemmas.List.Sums.{fold_more}
 use Rattle.std.proofs.lemmas.Map.Made.{lookup-map_values}
 use Rattle.std.proofs.lemmas.Map.Text.{is_eq-slice_cmp}
@@ -25,7 +24,7 @@ use Rattle.keep_files.specs.Places.{file_at, entry_at}
 use Rattle.keep_files.specs.declared.file.FileIn.{FileIn}
 use Rattle.keep_files.specs.declared.fault.PackError.{PackError}
 use Rattle.keep_files.specs.declared.fault.PackError.TheVariants.{BadName, Twice}
-use Rattle.keep_files.proofs.Regrouped.{under, insert-mapped}
+use Rattle.keep_files.proofs.Regrouped.{insert-mapped}
 
 abbrev pub paths : List FileIn → List (List ℕ)
 paths fs = map (λ (f : FileIn). f.path) fs

@@ -1,6 +1,6 @@
 -- What was laid out and is unpacked gives the files.
 -- Laws: `ascending-sorted`, `ascending-keyed`, `laid-good`, `laid-unpacked`, `normal-unpacked`.
-use Rattle.std.proofs.Common.{◌≡◌, ℕ, ◌+◌, ◌-◌, ◌<◌, ◌≤◌, ◌^◌, max, Bool, true, false, not, ◌&&◌, ◌||◌, cond, eqb, leb, ltb, List, [], ◌∷◌, ◌++◌, length, take, drop, map, Option, Some, None, Ok, Err, refl, ap, sym, subst, ◌∙◌, arith, append-nil, append_assoc, length-append}
+use Rattle.std.proofs.Common.{◌≡◌, ℕ, ◌+◌, ◌-◌, ◌<◌, ◌≤◌, ◌^◌, Bool, true, false, not, ◌&&◌, ◌||◌, cond, eqb, leb, ltb, List, [], ◌∷◌, ◌++◌, length, take, drop, map, Option, Some, Ok, refl, ap, sym, subst, ◌∙◌, arith, append-nil, append_assoc, length-append}
 use Rattle.std.specs.Prelude.{codes, fold, Result}
 use Rattle.std.specs.List.{list_all, flat_map, AllByRecursion}
 use Rattle.std.specs.List.Sorted.{IsStrictlySortedBy}
@@ -13,40 +13,38 @@ use Rattle.std.specs.BTreeMap.{insert_entry}
 use Rattle.std.specs.Str.{bytes_eq}
 use Rattle.std.proofs.lemmas.Bool.{and_parts, and_from, and_right, or_left, not-true, lt-ltb, ltb-true, leb-true, le-leb, false≢true}
 use Rattle.std.proofs.lemmas.List.{take_at, drop_at, map-append}
-use Rattle.std.proofs.lemmas.List.Concat.{flat_map-append}
-use Rattle.std.proofs.lemmas.List.Folds.{list_all-append, list_all-map, flat_map-map}
+use Rattle.std.proofs.lemmas.List.Folds.{list_all-map}
 use Rattle.std.proofs.lemmas.List.Sums.{sum_by-cons}
 use lib.Pointwise.{bytes_decides}
 use Rattle.md5.specs.Md5.{md5}
 use Rattle.keep_spec.specs.Locator.{is_locator, size}
 use Rattle.keep_spec.specs.Names.{is_path, is_stream_name}
-use Rattle.keep_spec.specs.Manifest.{IsGood, total_size, is_segment, is_named, is_within}
+use Rattle.keep_spec.specs.Manifest.{IsGood, total_size}
 use Rattle.keep_spec.specs.Results.{◌>>=◌}
 use Rattle.keep_spec.specs.declared.manifest.Manifest.{Manifest}
 use Rattle.keep_spec.specs.declared.manifest.Stream.{Stream}
 use Rattle.keep_spec.specs.declared.manifest.Segment.{Segment}
-use Rattle.keep_manifest.specs.Good.{is_good_segment, is_good_stream, is_good_manifest}
+use Rattle.keep_manifest.specs.Good.{is_good_segment, is_good_stream}
 use Rattle.keep_manifest.proofs.GoodManifests.{good_tests}
 use Rattle.keep_locator.proofs.Lists.{list_all-weaker}
 use Rattle.keep_normal.specs.declared.part.Part.{Part}
-use Rattle.keep_normal.specs.declared.part.FileParts.{FileParts}
 use Rattle.keep_normal.specs.declared.span.Span.{Span}
 use Rattle.keep_normal.specs.Files.{span_of, parts_in, is_mark, path_of, piece_of, stream_pieces, pieces, file_of as file_of_group, files}
 use Rattle.keep_normal.specs.Grouped.{byte_order, grouped}
 use Rattle.keep_normal.specs.Normal.{path_parts, cut_last, or_empty_block, normal}
-use Rattle.keep_normal.proofs.FilePaths.{is_named_path, path-named}
-use Rattle.keep_normal.proofs.GoodNormalForms.{is_whole_path, whole_join, line_locators}
+use Rattle.keep_normal.proofs.FilePaths.{path-named}
+use Rattle.keep_normal.proofs.GoodNormalForms.{whole_join, line_locators}
 use Rattle.keep_normal.proofs.Grouping.{is_filled, grouped-filled, each_at, grouped-each}
 use Rattle.keep_normal.proofs.NormalFiles.{ranges-normal}
 use Rattle.keep_normal.proofs.OrderedEntries.{IsAscending, ascending-insert}
 use Rattle.keep_files.specs.Layout.{whole_path, directory_of, name_of, by_path, ascending, directories, end_to_end, cut, locator_of, segments_from, pieces_of, line_of, laid_out}
-use Rattle.keep_files.specs.Stored.{bytes_of, file_of, file_with, files_of, unpacking}
+use Rattle.keep_files.specs.Stored.{bytes_of, file_with, files_of, unpacking}
 use Rattle.keep_files.specs.declared.file.FileIn.{FileIn}
 use Rattle.keep_files.specs.declared.fault.UnpackError.{UnpackError}
 use Rattle.keep_files.proofs.BlockLocators.{is_locator-of, size-of}
 use Rattle.keep_files.proofs.CutPieces.{cut-joined, cut-sizes}
 use Rattle.keep_files.proofs.PartBytes.{bytes_of-joined, files_of-stripped, line_read, size_empty}
-use Rattle.keep_files.proofs.Regrouped.{under, grouped-mapped, map-flat_map, taken_apart, table_of, regrouped}
+use Rattle.keep_files.proofs.Regrouped.{under, grouped-mapped, table_of, regrouped}
 
 abbrev Store : Type 0
 Store = List ℕ → Option (List ℕ)

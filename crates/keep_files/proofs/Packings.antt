@@ -1,22 +1,21 @@
 -- What packing makes of the places of files: the directories, the lines, the blocks; and that the text is unpacked to the files.
 -- Laws: `directories_at`, `lines_at`, `pieces_at`, `small_at`, `within_at`, `text_unpacked`.
-use Rattle.std.proofs.Common.{◌≡◌, ℕ, ◌<◌, ◌^◌, Bool, true, ltb, List, [], ◌∷◌, ◌++◌, length, map, Option, Some, Ok, option_map, refl, ap, sym, subst, ◌∙◌}
-use Rattle.std.specs.Prelude.{Result, All}
-use Rattle.std.specs.List.{list_all, flat_map, AllByRecursion}
+use Rattle.std.proofs.Common.{◌≡◌, ℕ, ◌<◌, ◌^◌, true, ltb, List, [], ◌∷◌, map, Option, Some, Ok, refl, ap, sym, subst, ◌∙◌}
+use Rattle.std.specs.Prelude.{All}
+use Rattle.std.specs.List.{list_all, flat_map}
 use Rattle.std.proofs.lemmas.List.Elements.{recursion_from_All}
 use Rattle.std.proofs.lemmas.List.Folds.{list_all-map, flat_map-map}
 use Rattle.md5.specs.Md5.{md5}
 use Rattle.keep_spec.specs.Names.{is_path}
-use Rattle.keep_spec.specs.Manifest.{IsGood, manifest_of}
+use Rattle.keep_spec.specs.Manifest.{IsGood}
 use Rattle.keep_spec.specs.declared.manifest.Manifest.{Manifest}
 use Rattle.keep_normal.specs.Grouped.{grouped}
 use Rattle.keep_normal.specs.Normal.{normal}
-use Rattle.keep_normal.proofs.Grouping.{all_values, all_pairs, grouped-all}
+use Rattle.keep_normal.proofs.Grouping.{grouped-all}
 use Rattle.keep_files.specs.Layout.{directory_of, by_path, ascending, directories, pieces_of, line_of, laid_out, distinct, blocks_of}
 use Rattle.keep_files.specs.Places.{file_at, entry_at, group_at, are_within, places_by_directory}
 use Rattle.keep_files.specs.Stored.{unpacking}
 use Rattle.keep_files.specs.declared.file.FileIn.{FileIn}
-use Rattle.keep_files.specs.declared.fault.UnpackError.{UnpackError}
 use Rattle.keep_files.proofs.KnownBlocks.{held-distinct}
 use Rattle.keep_files.proofs.LaidOutFiles.{is_small_group, laid-unpacked, normal-unpacked}
 use Rattle.keep_files.proofs.Regrouped.{under, grouped-mapped}

@@ -1,6 +1,6 @@
 -- Values grouped by key, under a function of the values; and groups taken apart and grouped again by another key.
 -- Laws: `insert-mapped`, `grouped-mapped`, `map-flat_map`, `regrouped`.
-use Rattle.std.proofs.Common.{◌≡◌, ℕ, Bool, true, false, cond, ◌&&◌, List, [], ◌∷◌, ◌++◌, Option, Some, None, map, refl, ap, sym, subst, ◌∙◌, append-nil}
+use Rattle.std.proofs.Common.{◌≡◌, ℕ, Bool, true, false, cond, List, [], ◌∷◌, ◌++◌, Option, Some, None, map, refl, ap, sym, subst, ◌∙◌, append-nil}
 use Rattle.std.specs.Prelude.{fold, unwrap_or}
 use Rattle.std.specs.Option.{option_map}
 use Rattle.std.specs.Ordering.{match_ordering}
@@ -9,19 +9,17 @@ use Rattle.std.specs.declared.cmp.Ordering.TheVariants.{Less, Equal, Greater}
 use Rattle.std.specs.List.{list_all, flat_map}
 use Rattle.std.specs.List.Sorted.{IsStrictlySortedBy}
 use Rattle.std.specs.Map.{lookup, keys_of}
-use Rattle.std.specs.BTreeMap.{insert_entry, is_at}
+use Rattle.std.specs.BTreeMap.{insert_entry}
 use Rattle.std.specs.Str.{bytes_eq}
-use Rattle.std.proofs.lemmas.Bool.{and_parts, and_from, false≢true}
+use Rattle.std.proofs.lemmas.Bool.{and_from, false≢true}
 use Rattle.std.proofs.lemmas.List.{map-append}
-use Rattle.std.proofs.lemmas.List.Concat.{flat_map-append}
 use Rattle.std.proofs.lemmas.List.Folds.{list_all-map, flat_map-map}
 use Rattle.std.proofs.lemmas.Map.Made.{lookup-map_values}
 use lib.Pointwise.{bytes_decides}
-use Rattle.keep_locator.proofs.Lists.{list_all-weaker}
 use Rattle.keep_normal.specs.Grouped.{byte_order, values_at, put, grouped}
-use Rattle.keep_normal.proofs.Grouping.{has_key, key-same, selected, grouped-values, values_are, is_filled, grouped-filled, grouped-each, each_at, grouped-ascending, same_maps, one_given, all_true}
+use Rattle.keep_normal.proofs.Grouping.{has_key, key-same, grouped-values, values_are, is_filled, grouped-filled, grouped-each, each_at, grouped-ascending, same_maps, one_given}
 use Rattle.keep_normal.proofs.NormalFiles.{flat_map-flat_map, flat_map_same_all, flat_map_none}
-use Rattle.keep_normal.proofs.OrderedEntries.{at-same, IsAscending}
+use Rattle.keep_normal.proofs.OrderedEntries.{at-same}
 
 -- an entry with a function of its value
 abbrev pub under : {X Y : Type 0} → (X → Y) → List ℕ × X → List ℕ × Y

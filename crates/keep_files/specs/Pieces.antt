@@ -1,5 +1,5 @@
 -- What the cutter of a directory's bytes and the list of all blocks hold.
-use Rattle.std.specs.Prelude.{ℕ, ◌==◌, ◌<◌, ◌++◌, ◌≡◌, true, Bool, List, [], ◌∷◌, length, Option, Some, is_some}
+use Rattle.std.specs.Prelude.{ℕ, ◌==◌, ◌<◌, ◌++◌, ◌≡◌, true, List, [], ◌∷◌, length, Some, is_some}
 use Rattle.std.specs.List.{list_all, flat_map}
 use Rattle.std.specs.BTreeMap.{get}
 use Rattle.md5.specs.Md5.{md5}

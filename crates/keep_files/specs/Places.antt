@@ -1,5 +1,5 @@
 -- Files named by their places in a list.
-use Rattle.std.specs.Prelude.{ℕ, nat_lt, Bool, true, List, [], ◌∷◌, map, length, slice_index_or, None, Result, Ok, Err, ◌≡◌}
+use Rattle.std.specs.Prelude.{ℕ, nat_lt, Bool, true, List, [], map, length, slice_index_or, None, Result, Ok, Err, ◌≡◌}
 use Rattle.std.specs.List.{list_all}
 use Rattle.std.specs.BTreeMap.{BTreeMap}
 use Rattle.keep_normal.specs.Grouped.{grouped}

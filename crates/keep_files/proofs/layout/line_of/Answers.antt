@@ -2,7 +2,6 @@ use Rattle.std.proofs.Common.{◌∙◌, ap, arith, leb, length}
 use Rattle.std.specs.List.{list_all}
 use Rattle.std.proofs.lemmas.Bool.{leb-true, le-leb}
 use Rattle.keep_locator.proofs.Lists.{list_all-weaker}
-use Rattle.keep_files.specs.Layout.{cut}
 use Rattle.keep_files.proofs.CutPieces.{cut-sizes}
 use Rattle.keep_files.proofs.layout.line_of.Goals as goal
 

@@ -1,14 +1,12 @@
-use Rattle.std.proofs.Common.{◌≡◌, ◌∙◌, ◌<◌, ◌^◌, true, ℕ, List, [], sym, ap, subst, arith, length, map, Some, Ok, option_map}
+use Rattle.std.proofs.Common.{◌≡◌, ◌∙◌, ℕ, List, [], sym, ap, subst, arith, length, map, Some, option_map}
 use Rattle.std.specs.List.{list_all}
-use Rattle.keep_spec.specs.Names.{is_path}
-use Rattle.keep_spec.specs.Manifest.{IsGood, manifest_of, text_of}
+use Rattle.keep_spec.specs.Manifest.{IsGood, text_of}
 use Rattle.keep_spec.specs.declared.manifest.Manifest.{Manifest}
 use Rattle.keep_spec.specs.declared.manifest.Stream.{Stream}
 use Rattle.keep_normal.specs.Normal.{normal}
 use Rattle.keep_files.specs.Layout.{directories, laid_out, blocks_of}
 use Rattle.keep_files.specs.Places.{group_at, are_within}
 use Rattle.keep_files.specs.Stored.{stored_in, unpacking}
-use Rattle.keep_files.specs.declared.file.FileIn.{FileIn}
 use Rattle.keep_files.specs.declared.file.Packed.{Packed}
 use Rattle.keep_files.proofs.AscendingFiles.{found_there}
 use Rattle.keep_files.proofs.FilePlaces.{paths_good}

@@ -1,10 +1,8 @@
-use Rattle.std.proofs.Common.{◌≡◌, ◌∙◌, ℕ, true, List, ap, refl, sym, subst, Ok, Err, arith}
-use Rattle.std.specs.Prelude.{Result}
+use Rattle.std.proofs.Common.{◌≡◌, ◌∙◌, ℕ, true, List, ap, sym, subst, Err, arith}
 use Rattle.std.specs.BTreeMap.{get}
 use Rattle.std.specs.List.{list_all}
 use Rattle.std.proofs.lemmas.Result.{err_from_is_err_and}
 use Rattle.keep_manifest.proofs.GoodManifests.{good_is}
-use Rattle.keep_normal.specs.Files.{files}
 use Rattle.keep_normal.specs.Grouped.{byte_order}
 use Rattle.keep_normal.specs.Sound.{are_sound}
 use Rattle.keep_normal.specs.declared.part.FileParts.{FileParts}

@@ -4,7 +4,6 @@ use Rattle.std.proofs.lemmas.List.{length_push}
 use Rattle.md5.specs.Md5.{md5}
 use Rattle.keep_normal.specs.Grouped.{byte_order}
 use Rattle.keep_normal.proofs.Grouping.{has_key}
-use Rattle.keep_files.specs.Layout.{with_block}
 use Rattle.keep_files.proofs.KnownBlocks.{none_there, all_known, one_known, new_known, inside_more}
 use Rattle.keep_files.proofs.blocks.Blocks.add.Goals as goal
 
