@@ -1,4 +1,4 @@
--- Openings that ask the table, and the devices of the task that an opening makes.
+-- Openings that ask the table; the task that an opening makes, and its devices.
 use Rattle.std.specs.Prelude.{◌<◌, ℕ, List, [], All, Result, Ok, Err, ⊤}
 use Rattle.keep_history.specs.declared.task.Opening.{Opening}
 use Rattle.keep_history.specs.declared.task.Opening.TheVariants as Open
@@ -14,6 +14,11 @@ AsksTable (Open.Touch token server locator) = ⊥
 AsksTable (Open.Untrash token server hash) = ⊥
 AsksTable (Open.Restart device) = ⊥
 AsksTable other = ⊤
+
+-- the task that is made of what an opening goes on with, or the end at once
+abbrev pub made : {X : Type 0} → (X → Task) → Result X Outcome → Result Task Outcome
+made make (Ok x) = Ok (make x)
+made make (Err outcome) = Err outcome
 
 -- the devices that a task walks over
 abbrev pub walked : Task → List ℕ

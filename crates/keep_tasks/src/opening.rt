@@ -1,8 +1,10 @@
 // What an opening makes: a task, or an end at once.
-ghost use Rattle.std.specs.Prelude.{◌≡◌, ◌<◌, ℕ, IfOk, All, length};
+ghost use Rattle.std.specs.Prelude.{◌≡◌, ◌<◌, ℕ, List, IfOk, All, length};
 ghost use Rattle.keep_spec.specs.Config.{devices_of};
 ghost use Rattle.keep_history.specs.Tasks.{opened, put_opened, get_opened, touch_opened, untrash_opened, on_any, permitted_block, asks_table, by_verdict, has_other_digest, is_read_only, writable};
-ghost use Rattle.keep_tasks.specs.Openings.{AsksTable, HasDevicesBelow};
+ghost use Rattle.keep_history.specs.declared.task.Task.{Task as TheTask};
+ghost use Rattle.keep_spec.specs.declared.token.TokenId.{TokenId as TheTokenId};
+ghost use Rattle.keep_tasks.specs.Openings.{AsksTable, HasDevicesBelow, made};
 
 use crate::uuid::collection_number;
 use keep_config::Config;
@@ -41,17 +43,17 @@ fn has_other_digest(block: &Block, digest: Option<Digest>) -> bool
     }
 }
 
-fn open_put(
+/// What a put goes on with: its devices, at least one, and its block.
+pub(crate) fn put_parts(
     alloc: Global,
     config: &Config,
     server: u32,
-    id: TokenId,
-    token: Bytes,
     bytes: Bytes,
     digest: Option<Digest>,
-) -> Result<Result<Task, Outcome>, NoMemory>
-    ensures opened { IfOk result (λ r. r ≡ put_opened config.now server id token bytes digest) }
-    ensures within { IfOk result (HasDevicesBelow (length config.now.devices)) }
+) -> Result<Result<(Items<u32>, Block), Outcome>, NoMemory>
+    ensures opened { IfOk result (λ r. (id : TheTokenId) → (token : List ℕ) → put_opened config.now server id token bytes digest ≡ made (λ p. TheTask.Put p.0 token id p.1) r) }
+    ensures some { IfOk result (λ r. IfOk r (λ p. 0 < length p.0)) }
+    ensures within { IfOk result (λ r. IfOk r (λ p. All (λ d. d < length config.now.devices) p.0)) }
 {
     let Ok(block) = Block::of(bytes) else {
         return Ok(Err(Outcome::TooLong));
@@ -71,12 +73,30 @@ fn open_put(
     if devices.len() == 0 {
         return Ok(Err(Outcome::NoRoom));
     }
-    Ok(Ok(Task::Put {
-        devices,
-        token,
-        id,
-        block,
-    }))
+    Ok(Ok((devices, block)))
+}
+
+fn open_put(
+    alloc: Global,
+    config: &Config,
+    server: u32,
+    id: TokenId,
+    token: Bytes,
+    bytes: Bytes,
+    digest: Option<Digest>,
+) -> Result<Result<Task, Outcome>, NoMemory>
+    ensures opened { IfOk result (λ r. r ≡ put_opened config.now server id token bytes digest) }
+    ensures within { IfOk result (HasDevicesBelow (length config.now.devices)) }
+{
+    match put_parts(alloc, config, server, bytes, digest)? {
+        Ok((devices, block)) => Ok(Ok(Task::Put {
+            devices,
+            token,
+            id,
+            block,
+        })),
+        Err(outcome) => Ok(Err(outcome)),
+    }
 }
 
 // The digest that a verdict lets a token ask for.
@@ -108,19 +128,21 @@ fn permitted(
     by_verdict(verify(locator, token, config.ttl, secret, reading))
 }
 
-fn open_get(
+/// What a get goes on with: its devices, at least one, and its digest.
+pub(crate) fn get_parts(
     alloc: Global,
     config: &Config,
     server: u32,
     id: TokenId,
-    token: &Bytes,
-    text: &Bytes,
+    token: &[u8],
+    text: &[u8],
     reading: u64,
-) -> Result<Result<Task, Outcome>, NoMemory>
-    ensures opened { IfOk result (λ r. r ≡ get_opened config.now server id token.now text.now reading) }
-    ensures within { IfOk result (HasDevicesBelow (length config.now.devices)) }
+) -> Result<Result<(Items<u32>, Digest), Outcome>, NoMemory>
+    ensures opened { IfOk result (λ r. get_opened config.now server id token.now text.now reading ≡ made (λ p. TheTask.Get p.0 p.1) r) }
+    ensures some { IfOk result (λ r. IfOk r (λ p. 0 < length p.0)) }
+    ensures within { IfOk result (λ r. IfOk r (λ p. All (λ d. d < length config.now.devices) p.0)) }
 {
-    let locator = match Locator::read(text.as_slice()) {
+    let locator = match Locator::read(text) {
         Ok(locator) => locator,
         Err(error) => {
             return Ok(Err(Outcome::BadLocator {
@@ -133,7 +155,7 @@ fn open_get(
             bytes: Bytes::of(Vec::new(alloc)),
         }));
     }
-    let digest = match permitted(config, id, token.as_slice(), &locator, reading) {
+    let digest = match permitted(config, id, token, &locator, reading) {
         Ok(digest) => digest,
         Err(outcome) => return Ok(Err(outcome)),
     };
@@ -141,7 +163,70 @@ fn open_get(
     if devices.len() == 0 {
         return Ok(Err(Outcome::NotFound));
     }
-    Ok(Ok(Task::Get { devices, digest }))
+    Ok(Ok((devices, digest)))
+}
+
+fn open_get(
+    alloc: Global,
+    config: &Config,
+    server: u32,
+    id: TokenId,
+    token: &Bytes,
+    text: &Bytes,
+    reading: u64,
+) -> Result<Result<Task, Outcome>, NoMemory>
+    ensures opened { IfOk result (λ r. r ≡ get_opened config.now server id token.now text.now reading) }
+    ensures within { IfOk result (HasDevicesBelow (length config.now.devices)) }
+{
+    match get_parts(
+        alloc,
+        config,
+        server,
+        id,
+        token.as_slice(),
+        text.as_slice(),
+        reading,
+    )? {
+        Ok((devices, digest)) => Ok(Ok(Task::Get { devices, digest })),
+        Err(outcome) => Ok(Err(outcome)),
+    }
+}
+
+/// What a touch goes on with: its devices, at least one, its digest, and the locator without its hints.
+pub(crate) fn touch_parts(
+    alloc: Global,
+    config: &Config,
+    server: u32,
+    id: TokenId,
+    token: &[u8],
+    text: &[u8],
+    reading: u64,
+) -> Result<Result<(Items<u32>, Digest, Bytes), Outcome>, NoMemory>
+    ensures opened { IfOk result (λ r. touch_opened config.now server id token.now text.now reading ≡ made (λ p. TheTask.Touch p.0 token.now id p.1 p.2) r) }
+    ensures some { IfOk result (λ r. IfOk r (λ p. 0 < length p.0)) }
+    ensures within { IfOk result (λ r. IfOk r (λ p. All (λ d. d < length config.now.devices) p.0)) }
+{
+    let locator = match Locator::read(text) {
+        Ok(locator) => locator,
+        Err(error) => {
+            return Ok(Err(Outcome::BadLocator {
+                at: error.at as u64,
+            }));
+        }
+    };
+    let stripped = Bytes::of(Vec::from_slice(alloc, locator.stripped())?);
+    if locator.is_empty_block() {
+        return Ok(Err(Outcome::Touched { locator: stripped }));
+    }
+    let digest = match permitted(config, id, token, &locator, reading) {
+        Ok(digest) => digest,
+        Err(outcome) => return Ok(Err(outcome)),
+    };
+    let devices = writable(alloc, config, server)?;
+    if devices.len() == 0 {
+        return Ok(Err(Outcome::NotFound));
+    }
+    Ok(Ok((devices, digest, stripped)))
 }
 
 fn open_touch(
@@ -156,33 +241,45 @@ fn open_touch(
     ensures opened { IfOk result (λ r. r ≡ touch_opened config.now server id token text.now reading) }
     ensures within { IfOk result (HasDevicesBelow (length config.now.devices)) }
 {
-    let locator = match Locator::read(text.as_slice()) {
-        Ok(locator) => locator,
-        Err(error) => {
-            return Ok(Err(Outcome::BadLocator {
-                at: error.at as u64,
-            }));
-        }
-    };
-    let stripped = Bytes::of(Vec::from_slice(alloc, locator.stripped())?);
-    if locator.is_empty_block() {
-        return Ok(Err(Outcome::Touched { locator: stripped }));
+    match touch_parts(
+        alloc,
+        config,
+        server,
+        id,
+        token.as_slice(),
+        text.as_slice(),
+        reading,
+    )? {
+        Ok((devices, digest, stripped)) => Ok(Ok(Task::Touch {
+            devices,
+            token,
+            id,
+            digest,
+            stripped,
+        })),
+        Err(outcome) => Ok(Err(outcome)),
     }
-    let digest = match permitted(config, id, token.as_slice(), &locator, reading) {
-        Ok(digest) => digest,
-        Err(outcome) => return Ok(Err(outcome)),
-    };
+}
+
+/// The devices that an untrash goes on with, at least one.
+pub(crate) fn untrash_parts(
+    alloc: Global,
+    config: &Config,
+    server: u32,
+    id: TokenId,
+) -> Result<Result<Items<u32>, Outcome>, NoMemory>
+    ensures opened { IfOk result (λ r. (digest : List ℕ) → untrash_opened config.now server id digest ≡ made (λ p. TheTask.Untrash p digest) r) }
+    ensures some { IfOk result (λ r. IfOk r (λ p. 0 < length p)) }
+    ensures within { IfOk result (λ r. IfOk r (λ p. All (λ d. d < length config.now.devices) p)) }
+{
+    if id.number != 0 {
+        return Ok(Err(Outcome::Forbidden));
+    }
     let devices = writable(alloc, config, server)?;
     if devices.len() == 0 {
         return Ok(Err(Outcome::NotFound));
     }
-    Ok(Ok(Task::Touch {
-        devices,
-        token,
-        id,
-        digest,
-        stripped,
-    }))
+    Ok(Ok(devices))
 }
 
 fn open_untrash(
@@ -195,14 +292,10 @@ fn open_untrash(
     ensures opened { IfOk result (λ r. r ≡ untrash_opened config.now server id digest) }
     ensures within { IfOk result (HasDevicesBelow (length config.now.devices)) }
 {
-    if id.number != 0 {
-        return Ok(Err(Outcome::Forbidden));
+    match untrash_parts(alloc, config, server, id)? {
+        Ok(devices) => Ok(Ok(Task::Untrash { devices, digest })),
+        Err(outcome) => Ok(Err(outcome)),
     }
-    let devices = writable(alloc, config, server)?;
-    if devices.len() == 0 {
-        return Ok(Err(Outcome::NotFound));
-    }
-    Ok(Ok(Task::Untrash { devices, digest }))
 }
 
 // The query of an opening that asks the table.

@@ -1,0 +1,6 @@
+use Rattle.std.proofs.Common.{refl}
+use Rattle.keep_tasks.proofs.Opens.{task-made, restart-opens, restart-begins}
+use Rattle.keep_tasks.proofs.restart.RestartTask.open.Goals as goal
+
+pub returns : goal.returns
+returns c = record { opened = λ config reading. task-made _ _ _ _ (restart-opens config c.args.device reading) (refl, (restart-begins config c.args.device, λ n lt. lt)) }

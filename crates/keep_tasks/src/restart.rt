@@ -1,0 +1,63 @@
+// Restarts.
+ghost use Rattle.std.specs.Prelude.{◌≡◌, ◌<◌};
+
+use crate::steps::{Opened, Steps};
+use keep_event::{DeviceQuery, Query, Reply};
+use keep_history::Outcome;
+use keep_spec::NoMemory;
+
+/// A restart: it asks the device once to forget its lists.
+#[derive(Drop)]
+pub struct RestartTask {
+    query: Query,
+    ended: bool,
+}
+
+impl Steps for RestartTask {
+    ghost use Rattle.keep_tasks.specs.Kinds.{IsRestart};
+    ghost use Rattle.keep_event.specs.Port.{MayAsk};
+    ghost use Rattle.std.specs.Prelude.{true};
+
+    ghost query_of = { λ t. t.query };
+
+    ghost has_ended = { λ t. t.ended };
+
+    ghost stands = { λ t. IsRestart t.query };
+
+    ghost may_ask = { λ t n. MayAsk n t.query };
+
+    ghost sure = { λ t. true };
+
+    fn ended(&self) -> bool {
+        self.ended
+    }
+
+    fn query(&self) -> &Query {
+        &self.query
+    }
+
+    fn take(&mut self, _reply: &Reply) -> Result<Option<Outcome>, NoMemory> {
+        self.ended = true;
+        Ok(Some(Outcome::Restarted))
+    }
+}
+
+impl RestartTask {
+    ghost use Rattle.keep_history.specs.Tasks.{next, opened};
+    ghost use Rattle.keep_history.specs.declared.task.Opening.{Opening as TheOpening};
+    ghost use Rattle.keep_tasks.specs.Steps.{IsOpened};
+    ghost use Rattle.keep_spec.specs.Config.{Configuration};
+    ghost use Rattle.std.specs.Prelude.{false, [], ℕ};
+
+    /// Opens a restart of a device, by its number in the configuration.
+    pub fn open(device: u32) -> Opened<RestartTask>
+        ensures opened { (c : Configuration) → (reading : ℕ) → IsOpened (opened c (TheOpening.Restart device) reading) result (λ t task.
+            (⟦<RestartTask as Steps>⟧.has_ended t ≡ false) × (⟦<RestartTask as Steps>⟧.stands t (next c task) []
+            × ((n : ℕ) → device < n → ⟦<RestartTask as Steps>⟧.may_ask t n))) }
+    {
+        Opened::Task(RestartTask {
+            query: Query::Device(device, DeviceQuery::Restart),
+            ended: false,
+        })
+    }
+}
