@@ -14,6 +14,7 @@ mod manifests;
 mod names;
 mod orders;
 mod packs;
+mod plans;
 mod printed;
 mod runs;
 mod signing;

@@ -2,8 +2,8 @@
 use crate::answer::Answer;
 use crate::book::Case;
 use crate::{
-    configurations, devices, indexes, lists, locators, manifests, names, orders, packs, printed,
-    runs, signing, statuses, tables, texts, wire,
+    configurations, devices, indexes, lists, locators, manifests, names, orders, packs, plans,
+    printed, runs, signing, statuses, tables, texts, wire,
 };
 use std::alloc::Global;
 
@@ -25,6 +25,7 @@ pub fn answer_to(alloc: Global, subject: &str, case: &Case, answer: &mut Answer)
         "normals" => manifests::answer(alloc, subject, case, answer),
         "orders" => orders::answer(alloc, case, answer),
         "packs" => packs::answer(alloc, case, answer),
+        "plans" => plans::answer(alloc, case, answer),
         "portables" => texts::answer(subject, case, answer),
         "printed" => printed::answer(alloc, case, answer),
         "requests" => wire::answer(alloc, subject, case, answer),
