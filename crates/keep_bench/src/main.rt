@@ -2,6 +2,7 @@
 #![tactic(auto)]
 
 mod files;
+mod plans;
 mod wire;
 
 use anyhow::Result;
@@ -256,6 +257,8 @@ fn main(rt: HostRuntime) -> Result<()> {
             "make-files" => files::make(&rt, &input)?,
             "pack" => files::pack(&rt, &input)?,
             "unpack" => files::pack_and_unpack(&rt, &input)?,
+            "gather" => plans::plan(&rt, &input, false)?,
+            "plan" => plans::plan(&rt, &input, true)?,
             _ => println!(rt; "no task {task}")?,
         }
     }
