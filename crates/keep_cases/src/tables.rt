@@ -1,6 +1,6 @@
 // The table of collections: the first line of the input is a configuration, and each further one a reading and a query: `round`, `sweep`,
 // `scan ROUND AFTER LIMIT`, `save TOKEN WANT PORTABLE TEXT`, `update TOKEN NUMBER preserve|- WANT PORTABLE TEXT`, `read TOKEN NUMBER VERSION`,
-// `trash TOKEN NUMBER TRASH_AT DELETE_AT` or `restore TOKEN NUMBER`. A portable hash may be `-`, a version may be left out; a text is the rest of the line and a
+// `trash TOKEN NUMBER TRASH_AT DELETE_AT` or `restore TOKEN NUMBER`. A line `wanted DIGEST` asks how many copies are wanted of a digest. A portable hash may be `-`, a version may be left out; a text is the rest of the line and a
 // newline, or nothing. The answer is the printed line of each event, with what that line doesn't say.
 ghost use Rattle.std.specs.Prelude.{◌≡◌, IfOk, IfSome};
 ghost use Rattle.keep_event.specs.Requests.{MayAskTable, rules_of as table_rules_of};
@@ -12,7 +12,7 @@ use keep_collections::{SaveRequest, Table, TableAnswer, TableQuery, rules_of};
 use keep_config::Config;
 use keep_event::ScanRow;
 use keep_script::push_table_event_line;
-use keep_spec::Bytes;
+use keep_spec::{Bytes, Digest};
 use std::alloc::Global;
 use std::str::from_utf8;
 
@@ -35,7 +35,12 @@ pub fn answer(alloc: Global, case: &Case, answer: &mut Answer) {
     let table = Table::new(alloc, rules_of(&config));
     let mut desk = Desk { config, table };
     for line in lines {
-        match desk.ask(alloc, from_utf8(line).unwrap_or("")) {
+        let line = from_utf8(line).unwrap_or("");
+        if let Some(digest) = line.strip_prefix("wanted ") {
+            desk.answer_wanted(digest, answer);
+            continue;
+        }
+        match desk.ask(alloc, line) {
             Ok(Some(reply)) => answer_event(alloc, &reply, answer),
             Ok(None) => answer.value(b"no query"),
             Err(_) => answer.cut(),
@@ -62,6 +67,16 @@ impl Desk {
             &query,
         )?;
         Ok(Some(reply))
+    }
+
+    // How many copies are wanted of a digest.
+    fn answer_wanted(&self, text: &str, answer: &mut Answer) {
+        let Some(digest) = Digest::read(text.as_bytes()) else {
+            return answer.value(b"no digest");
+        };
+        answer.text(b"wanted ");
+        answer.number(u64::from(self.table.wanted(&digest)));
+        answer.note();
     }
 }
 
