@@ -1,12 +1,12 @@
 // Plans of a round: the setting `config` is a configuration, `started` the reading at which the round began. Each line of the input is `page DEVICE` and any
-// number of entries `DIGEST+SIZE+MTIME`, or `row WANT` and any number of digests, which is a scan by itself. The answer has each device's items, device by
-// device, and then the lost digests.
+// number of entries `DIGEST+SIZE+MTIME`, or `row WANT` and any number of digests, which is a scan by itself, or `scan more` or `scan last` and any number of
+// revisions of rows without digests. The answer has what each such scan was answered, each device's items, device by device, and then the lost digests.
 use crate::answer::Answer;
 use crate::book::Case;
 use crate::error::OutOfMemory;
 use keep_config::Config;
 use keep_event::{Entry, Lists, ScanRow};
-use keep_gather::Gather;
+use keep_gather::{Gather, Scanned};
 use keep_plan::Plan;
 use keep_spec::{Digest, Items};
 use std::alloc::Global;
@@ -29,7 +29,7 @@ fn answer_plan(
 ) -> Result<(), OutOfMemory> {
     let mut gather = Gather::new(alloc, 1, case.number("started", 0));
     for line in case.body().split(|byte| *byte == b'\n') {
-        take_line(alloc, &mut gather, from_utf8(line).unwrap_or(""))?;
+        take_line(alloc, &mut gather, from_utf8(line).unwrap_or(""), answer)?;
     }
     let plan = Plan::of(alloc, &gather, config)?;
     for (device, lists) in plan.lists.iter().enumerate() {
@@ -43,7 +43,12 @@ fn answer_plan(
     Ok(())
 }
 
-fn take_line(alloc: Global, gather: &mut Gather, line: &str) -> Result<(), OutOfMemory> {
+fn take_line(
+    alloc: Global,
+    gather: &mut Gather,
+    line: &str,
+    answer: &mut Answer,
+) -> Result<(), OutOfMemory> {
     let (kind, rest) = line.split_once(' ').unwrap_or((line, ""));
     let (number, rest) = rest.split_once(' ').unwrap_or((rest, ""));
     match kind {
@@ -52,7 +57,38 @@ fn take_line(alloc: Global, gather: &mut Gather, line: &str) -> Result<(), OutOf
             gather.take_page(device, entries_of(alloc, rest)?)?;
         }
         "row" => take_row(alloc, gather, number.parse::<u8>().unwrap_or(0), rest)?,
+        "scan" => take_scan(alloc, gather, number == "last", rest, answer)?,
         _ => {}
+    }
+    Ok(())
+}
+
+fn take_scan(
+    alloc: Global,
+    gather: &mut Gather,
+    last: bool,
+    text: &str,
+    answer: &mut Answer,
+) -> Result<(), OutOfMemory> {
+    let mut rows = Vec::new(alloc);
+    for word in text.split_whitespace() {
+        rows.push(ScanRow {
+            revision: word.parse::<u64>().unwrap_or(0),
+            digests: Items::of(Vec::new(alloc)),
+            want: 1,
+        })?;
+    }
+    if gather.scanned() {
+        answer.value(b"no scan is taken");
+        return Ok(());
+    }
+    match gather.take_scan(rows, last)? {
+        Scanned::More { after } => {
+            answer.text(b"more after ");
+            answer.number(after);
+            answer.end();
+        }
+        Scanned::Complete => answer.value(b"complete"),
     }
     Ok(())
 }

@@ -54,7 +54,7 @@ fn segment_of(alloc: Global, file: &FileIn, position: u64) -> Result<Segment, Al
     })
 }
 
-// The position behind so many bytes; an error where it isn't below 10^19.
+// The position after `bytes` more bytes; an error where it isn't below 10^19.
 fn after(position: u64, bytes: usize) -> Result<u64, AllocError>
     ensures value { IfOk result (λ end. end ≡ position + bytes) }
     ensures bound { IfOk result (λ end. end < 10 ^ 19) }

@@ -1,4 +1,4 @@
--- How far the scans of a round have come.
+-- How far the scans of a round have come: this project's own rule.
 use Rattle.std.specs.Prelude.{List, if◌then◌else◌}
 use Rattle.keep_event.specs.Plan.{Scan, has_ended, reached}
 use Rattle.keep_gather.specs.declared.gather.Scanned.{Scanned}

@@ -55,7 +55,8 @@ impl Gather {
         }
     }
 
-    /// Takes a page that a device gave. Of one device and digest a later entry counts.
+    /// Takes a page that a device gave. Pages are kept as they were given; the plan lets a later entry of one device and digest count. After NoMemory the
+    /// entries are let go, and the gather is as before.
     pub fn take_page(&mut self, device: u32, entries: Vec<Entry>) -> Result<(), NoMemory>
         ensures ok { OnOk result (self.new ≡ with_page (record { device = device; entries = entries.items }) self.old) }
         ensures err { OnErr result (self.new ≡ self.old) }
@@ -71,7 +72,8 @@ impl Gather {
     }
 
     /// Takes the rows that the next scan gave, asked above the revision that the answer before named, or above 0.
-    /// Answers `More` with the last revision given, or with the one after which it was asked where no row was given.
+    /// Returns `More` with the last revision given, or with the one after which it was asked where no row was given, and `Complete` for the last scan, after which none
+    /// is taken. After NoMemory the rows are let go, and the gather is as before.
     pub fn take_scan(&mut self, rows: Vec<ScanRow>, last: bool) -> Result<Scanned, NoMemory>
         requires { has_ended self.old.scans ≡ false }
         ensures ok { OnOk result (self.new ≡ with_scan (record { after = reached self.old.scans; rows = rows.items; last = last }) self.old) }

@@ -118,11 +118,11 @@ pub enum Outcome {
     Touched {
         locator: Bytes,
     },
-    /// A get found the block. The bytes have the MD5 that was asked for.
+    /// A get found the block: the bytes that a device returned for the digest, or none for the empty block.
     Bytes {
         bytes: Bytes,
     },
-    /// An untrash brought this many trashed copies back; 0 where none was in the trash and a device has the block.
+    /// An untrash brought this many trashed copies back; 0 where none came back, no store failed and a device has the block.
     Untrashed {
         copies: u64,
     },
@@ -138,7 +138,7 @@ pub enum Outcome {
     },
     /// A device holds other bytes with the block's MD5. They stay.
     Collision,
-    /// No writable device took the block, and no store failed. Nothing was written.
+    /// The server has no writable device, or each write was answered that there is no room. Nothing was written.
     NoRoom,
     /// A store failed, and no device gave another end.
     StoreFault,
@@ -148,7 +148,7 @@ pub enum Outcome {
     },
     /// The locator has no signature that is valid for the token, or an untrash wants the system token. Nothing was asked.
     Forbidden,
-    /// The locator's signature was valid for the token up to its expiry. Nothing was asked.
+    /// The locator's one permission hint has an expiry that is past. Whether its signature was right isn't looked at. Nothing was asked.
     Expired {
         expiry: u32,
     },

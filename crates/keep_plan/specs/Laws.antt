@@ -1,4 +1,4 @@
--- What the plan promises, without a step of any machine: the safety of blocks rests on these.
+-- What the plan promises, without a step of any machine: the safety of blocks rests on these. This is the project's own rule.
 use Rattle.std.specs.Prelude.{◌≡◌, ◌≤◌, ◌<◌, ℕ, List, [], length, Some, false, slice_get}
 use Rattle.keep_spec.specs.Times.{threshold}
 use Rattle.keep_spec.specs.Config.{Configuration}

@@ -34,7 +34,7 @@ impl Draft {
         }
     }
 
-    /// Takes what items there are behind those that it has. After NoMemory one of them may have been taken.
+    /// Appends the items. After NoMemory one of them may have been taken.
     pub fn take(&mut self, trash: Option<TrashItem>, pull: Option<PullItem>) -> Result<(), NoMemory>
         ensures { OnOk result (self.new ≡ with_items trash pull self.old) }
     {

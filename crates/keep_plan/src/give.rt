@@ -11,7 +11,7 @@ use keep_event::Entry;
 use keep_spec::NoMemory;
 use std::alloc::Global;
 
-/// Gives each device the items that a decision has for it, behind those that it has.
+/// Gives each device the items that a decision has for it, after those that it has.
 pub fn give_all(
     alloc: Global,
     config: &Config,

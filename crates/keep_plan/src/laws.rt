@@ -13,7 +13,7 @@ pub fn kept_holders_are_enough()
     ensures { KeptHoldersAreEnough }
 {}
 
-/// A pull item names all devices that gave the digest, at least one, and goes to a target that lacks the block.
+/// A pull item names all configured devices that gave the digest, at least one, and goes to a target that lacks the block.
 pub fn pull_items_fill_gaps()
     ensures { PullItemsFillGaps }
 {}

@@ -18,12 +18,13 @@ use std::alloc::Global;
 pub struct Plan {
     /// The trash list and the pull list of each device, in order of their numbers. Items ascend by digest.
     pub lists: Vec<Lists>,
-    /// The digests of which copies are wanted and that no device holds, ascending.
+    /// The digests of which copies are wanted and that no configured device gave, ascending.
     pub lost: Vec<Digest>,
 }
 
 impl Plan {
-    /// The plan of what a round gathered: the project's own rule, after Arvados' keep-balance. Of one device and digest the
+    /// The plan of what a round gathered: the project's own rule, after Arvados' keep-balance. Whether the scans are complete isn't tested: before they are, the
+    /// plan trashes what later rows want, so no list of it may be sent. Of one device and digest the
     /// entry that was given last counts; a page of a device that isn't configured makes no holder. NoMemory is the only error.
     pub fn of(alloc: Global, gather: &Gather, config: &Config) -> Result<Plan, NoMemory>
         ensures lists { IfOk result (λ p. p.lists.items ≡ planned_lists config.now gather.now) }

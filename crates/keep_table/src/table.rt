@@ -119,7 +119,7 @@ impl Table {
         }
     }
 
-    /// Sets the times from which a collection is in the trash and from which a sweep removes it (nanoseconds since 1970), and returns TrashSet. `delete_at` is raised, if needed, past the expiry of every signature that a read has issued. Refuses with NoSuch or NotOwner.
+    /// Sets the times from which a collection is in the trash and from which a sweep removes it (nanoseconds since 1970), and returns TrashSet. `delete_at` is raised, if needed, to the reading and the grace, and to `trash_at` and the guard: past the expiry of every signature that a read has issued, where readings go back by no more than the skew. Refuses with NoSuch or NotOwner.
     #[tactic(auto, unfolding(keep_event::specs::Table::set_trash))]
     pub fn set_trash(
         &mut self,

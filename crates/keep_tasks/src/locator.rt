@@ -17,7 +17,7 @@ fn expiry_of(config: &Config, mtime: u64) -> u32
     expiry.min(u64::from(u32::MAX)) as u32
 }
 
-/// The locator of a block, signed for a token by the time of its replica.
+/// The locator of a block, signed for a token: its digest, its size, and a permission that expires `ttl` seconds after the second of `mtime`, the time of its replica in nanoseconds since 1970. The only error is NoMemory. The expiry is counted so by this project's own rule.
 #[tactic(auto, unfolding(keep_history::specs::Tasks::signed_locator))]
 pub fn signed_locator(
     alloc: Global,
@@ -39,7 +39,7 @@ pub fn signed_locator(
     Ok(Bytes::of(out))
 }
 
-/// The locator of a touch: the given one without its hints, signed for a token by the time of the replica.
+/// The locator of a touch: the given one without its hints, with a permission for the token that expires as that of a put, by `mtime` in nanoseconds since 1970. The only error is NoMemory.
 #[tactic(auto, unfolding(keep_history::specs::Tasks::touched_locator))]
 pub fn touched_locator(
     alloc: Global,

@@ -47,7 +47,7 @@ fn end_as_answered(answer: TableAnswer) -> Outcome
     }
 }
 
-/// The end of a task that asked the table, by its answer.
+/// The end of a task that asked the table, by its answer. The only error is NoMemory.
 #[tactic(auto, unfolding(keep_history::specs::Tasks::table_end))]
 pub fn table_outcome(
     alloc: Global,
