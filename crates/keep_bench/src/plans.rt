@@ -71,29 +71,15 @@ fn gathered(alloc: Global, config: &Config, input: &[u8]) -> Result<Option<Gathe
     Ok(Some(gather))
 }
 
-// Gathers what the input has, and plans it.
-pub fn plan(rt: &HostRuntime, input: &[u8], is_planned: bool) -> Result<()> {
-    let Some((line, rest)) = split_line(input) else {
-        println!(rt; "no configuration")?;
-        return Ok(());
-    };
-    let Ok(config) = Config::read(rt.alloc(), line) else {
-        println!(rt; "no configuration")?;
-        return Ok(());
-    };
-    let Some(gather) = gathered(rt.alloc(), &config, rest)? else {
-        println!(rt; "no pages")?;
-        return Ok(());
-    };
-    if !is_planned {
-        let pages = gather.pages().len();
-        println!(rt; "{pages} pages")?;
-        return Ok(());
-    }
-    let Ok(plan) = Plan::of(rt.alloc(), &gather, &config) else {
-        println!(rt; "no memory")?;
-        return Ok(());
-    };
+// The configuration of the first line, and what follows it.
+fn read_config(alloc: Global, input: &[u8]) -> Option<(Config, &[u8])> {
+    let (line, rest) = split_line(input)?;
+    let config = Config::read(alloc, line).ok()?;
+    Some((config, rest))
+}
+
+// How many items and lost digests a plan has.
+fn print_plan(rt: &HostRuntime, plan: &Plan) -> Result<()> {
     let mut trash: u64 = 0;
     let mut pull: u64 = 0;
     for lists in &plan.lists {
@@ -103,4 +89,27 @@ pub fn plan(rt: &HostRuntime, input: &[u8], is_planned: bool) -> Result<()> {
     let lost = plan.lost.len();
     println!(rt; "{trash} trash, {pull} pull, {lost} lost")?;
     Ok(())
+}
+
+fn plan_gathered(rt: &HostRuntime, config: &Config, gather: &Gather) -> Result<()> {
+    match Plan::of(rt.alloc(), gather, config) {
+        Ok(plan) => print_plan(rt, &plan),
+        Err(_) => Ok(println!(rt; "no memory")?),
+    }
+}
+
+fn gather_and_plan(rt: &HostRuntime, config: &Config, rest: &[u8], is_planned: bool) -> Result<()> {
+    match gathered(rt.alloc(), config, rest)? {
+        Some(gather) if is_planned => plan_gathered(rt, config, &gather),
+        Some(_) => Ok(println!(rt; "gathered")?),
+        None => Ok(println!(rt; "no pages")?),
+    }
+}
+
+// Gathers what the input has, and plans it.
+pub fn plan(rt: &HostRuntime, input: &[u8], is_planned: bool) -> Result<()> {
+    match read_config(rt.alloc(), input) {
+        Some((config, rest)) => gather_and_plan(rt, &config, rest, is_planned),
+        None => Ok(println!(rt; "no configuration")?),
+    }
 }

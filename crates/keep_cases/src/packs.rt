@@ -2,15 +2,13 @@
 // size of a block. The blocks, one a line, and the manifest; or the refusal. Then the files that the manifest is unpacked to, one a line as in the input, or why it
 // isn't, where the settings `without` and `short` number a block that isn't there or lacks its last byte.
 // `unpacks`: the whole input is a manifest, and each setting `block` has the bytes of a block.
-ghost use Rattle.keep_spec.specs.Manifest.{IsGood};
-
 use crate::answer::Answer;
 use crate::book::Case;
 use crate::error::OutOfMemory;
 use crate::manifests::answer_refusal;
 use keep_event::Block;
 use keep_files::{FileIn, PackError, Packed, UnpackError, pack_files, unpack};
-use keep_manifest::{Manifest, is_good, read};
+use keep_manifest::{is_good, read};
 use keep_spec::{Bytes, Digest};
 use std::alloc::Global;
 use std::collections::BTreeMap;
@@ -74,7 +72,7 @@ fn answer_unpacked(alloc: Global, case: &Case, packed: &Packed, answer: &mut Ans
         return answer.cut();
     };
     if is_good(&manifest) {
-        answer_files(alloc, &manifest, &blocks, answer);
+        answer_files(unpack(alloc, &manifest, &blocks), answer);
     }
 }
 
@@ -110,7 +108,7 @@ pub fn answer_manifest(alloc: Global, case: &Case, answer: &mut Answer) {
         return answer.cut();
     };
     if is_good(&manifest) {
-        answer_files(alloc, &manifest, &blocks, answer);
+        answer_files(unpack(alloc, &manifest, &blocks), answer);
     }
 }
 
@@ -127,15 +125,8 @@ fn given_blocks(alloc: Global, case: &Case) -> Result<BTreeMap<Digest, Bytes>, O
     Ok(blocks)
 }
 
-fn answer_files(
-    alloc: Global,
-    manifest: &Manifest,
-    blocks: &BTreeMap<Digest, Bytes>,
-    answer: &mut Answer,
-)
-    requires { IsGood manifest.now }
-{
-    match unpack(alloc, manifest, blocks) {
+fn answer_files(unpacked: Result<Vec<FileIn>, UnpackError>, answer: &mut Answer) {
+    match unpacked {
         Ok(files) => {
             for file in &files {
                 answer.text(file.path.as_slice());
