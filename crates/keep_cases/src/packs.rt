@@ -127,17 +127,25 @@ fn given_blocks(alloc: Global, case: &Case) -> Result<BTreeMap<Digest, Bytes>, O
 
 fn answer_files(unpacked: Result<Vec<FileIn>, UnpackError>, answer: &mut Answer) {
     match unpacked {
-        Ok(files) => {
-            for file in &files {
-                answer.text(file.path.as_slice());
-                answer.text(b"=");
-                answer.text(file.bytes.as_slice());
-                answer.note();
-            }
-        }
-        Err(UnpackError::Missing { digest }) => lack(b"Missing ", digest, answer),
-        Err(UnpackError::Short { digest }) => lack(b"Short ", digest, answer),
-        Err(UnpackError::NoMemory) => answer.cut(),
+        Ok(files) => answer_each(&files, answer),
+        Err(error) => answer_error(error, answer),
+    }
+}
+
+fn answer_each(files: &[FileIn], answer: &mut Answer) {
+    for file in files {
+        answer.text(file.path.as_slice());
+        answer.text(b"=");
+        answer.text(file.bytes.as_slice());
+        answer.note();
+    }
+}
+
+fn answer_error(error: UnpackError, answer: &mut Answer) {
+    match error {
+        UnpackError::Missing { digest } => lack(b"Missing ", digest, answer),
+        UnpackError::Short { digest } => lack(b"Short ", digest, answer),
+        UnpackError::NoMemory => answer.cut(),
     }
 }
 
