@@ -1,12 +1,13 @@
 // Devices: each line of the input is a reading and a query, `compare`, `write`, `fetch`, `touch` or `untrash` and a block, `clear ROUND`,
 // `accept ROUND` and then any number of `trash BLOCK SIZE MTIME` and `pull BLOCK SIZE SOURCES`, `page ROUND PREFIX`, `trash`, `pull`, `empty` or `restart`; or
 // `reopen` alone. A block is its bytes as text, or `x:` and hexadecimal digits; where a digest is asked for, it is the block's. Settings: `capacity`, `read_only`,
-// `ttl`, `skew`, `trash_life` (seconds), `store_fails`, and `held ..`. The answer is the printed line of each event, with what that line doesn't say, and at the end what the
-// store holds.
+// `ttl`, `skew`, `trash_life` (seconds), `store_fails`, `held ..`, and `changes`. The answer is the printed line of each
+// event, with what that line doesn't say, and at the end what the store holds; with `changes` also how many calls that change a store were made of it.
 ghost use Rattle.std.specs.Prelude.{◌≤◌};
 
 use crate::answer::Answer;
 use crate::book::{Case, bytes_of_hex, numbers_of};
+use crate::counted::Counted;
 use crate::error::OutOfMemory;
 use crate::stores::{answer_store, put_held};
 use keep_event::{
@@ -39,12 +40,12 @@ fn rules_of(case: &Case) -> DeviceRules {
 // A device, or the store of one that was not opened.
 #[derive(Drop)]
 enum Stand {
-    Open(Volume<MemoryStore>),
-    Shut(MemoryStore),
+    Open(Volume<Counted>),
+    Shut(Counted),
 }
 
 impl Stand {
-    fn into_store(self) -> MemoryStore {
+    fn into_store(self) -> Counted {
         match self {
             Stand::Open(volume) => volume.into_store(),
             Stand::Shut(store) => store,
@@ -66,7 +67,7 @@ fn answer_lines(alloc: Global, case: &Case, answer: &mut Answer) -> Result<(), O
             put_held(alloc, &mut store, setting.value)?;
         }
     }
-    let mut stand = opened(alloc, case, store, answer)?;
+    let mut stand = opened(alloc, case, Counted::over(store), answer)?;
     for line in case.body().split(|byte| *byte == b'\n') {
         let line = from_utf8(line).unwrap_or("");
         stand = if line == "reopen" {
@@ -75,14 +76,20 @@ fn answer_lines(alloc: Global, case: &Case, answer: &mut Answer) -> Result<(), O
             after_query(alloc, stand, line, answer)?
         };
     }
-    answer_store(0, &mut stand.into_store(), answer);
+    let mut store = stand.into_store();
+    answer_store(0, &mut store.inner, answer);
+    if case.value("changes").is_some() {
+        answer.text(b"changing calls ");
+        answer.number(store.changes);
+        answer.note();
+    }
     Ok(())
 }
 
 fn opened(
     alloc: Global,
     case: &Case,
-    store: MemoryStore,
+    store: Counted,
     answer: &mut Answer,
 ) -> Result<Stand, OutOfMemory> {
     match Volume::open(alloc, store, rules_of(case)) {

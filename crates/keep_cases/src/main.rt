@@ -5,15 +5,18 @@
 mod answer;
 mod book;
 mod configurations;
+mod counted;
 mod devices;
 mod error;
 mod indexes;
+mod lines;
 mod lists;
 mod locators;
 mod manifests;
 mod names;
 mod orders;
 mod packs;
+mod pieces;
 mod plans;
 mod printed;
 mod runs;
@@ -24,6 +27,7 @@ mod subjects;
 mod tables;
 mod texts;
 mod wire;
+mod written;
 
 use crate::answer::{Answer, first_difference};
 use crate::book::{Book, Case};

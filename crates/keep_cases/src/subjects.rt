@@ -2,8 +2,8 @@
 use crate::answer::Answer;
 use crate::book::Case;
 use crate::{
-    configurations, devices, indexes, lists, locators, manifests, names, orders, packs, plans,
-    printed, runs, signing, statuses, tables, texts, wire,
+    configurations, devices, indexes, lines, lists, locators, manifests, names, orders, packs,
+    plans, printed, runs, signing, statuses, tables, texts, wire, written,
 };
 use std::alloc::Global;
 
@@ -17,6 +17,7 @@ pub fn answer_to(alloc: Global, subject: &str, case: &Case, answer: &mut Answer)
         "files" => manifests::answer(alloc, subject, case, answer),
         "hashes" => manifests::answer_hash(alloc, case, answer),
         "indexes" => indexes::answer(alloc, case, answer),
+        "lines" => lines::answer(alloc, case, answer),
         "lists" => lists::answer(alloc, case, answer),
         "locators" => locators::answer(case, answer),
         "macs" => signing::answer_mac(alloc, case, answer),
@@ -33,11 +34,13 @@ pub fn answer_to(alloc: Global, subject: &str, case: &Case, answer: &mut Answer)
         "runs" => runs::answer(alloc, case, answer),
         "signatures" => signing::answer_signatures(case, answer),
         "signed" => signing::answer_signed(alloc, case, answer),
+        "sinks" => lines::answer_sink(alloc, case, answer),
         "statuses" => statuses::answer(alloc, case, answer),
         "tables" => tables::answer(alloc, case, answer),
         "unpacks" => packs::answer_manifest(alloc, case, answer),
         "uuids" => texts::answer(subject, case, answer),
         "verdicts" => signing::answer_verdicts(case, answer),
+        "written" => written::answer(alloc, case, answer),
         _ => return false,
     }
     true

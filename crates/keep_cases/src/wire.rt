@@ -2,11 +2,10 @@
 // the input ends after a whole message or within one, each of these once more with a read after the last byte that fails: then the same messages come
 // before that fault. A reading that differs from that of the whole adds a line. `cuts few` cuts at a few places alone, for long inputs, and `cuts none`
 // nowhere. With `failing N` the N-th read fails, and nothing else is read.
-ghost use Rattle.std.specs.Prelude.{None};
-
 use crate::answer::Answer;
 use crate::book::Case;
-use keep_base::{Bytes, Failed, Source};
+use crate::pieces::Pieces;
+use keep_base::Bytes;
 use keep_wire::{Replies, Request, Requests, Response, WireError};
 use std::alloc::Global;
 
@@ -15,45 +14,6 @@ const SHOWN: usize = 16;
 
 // How far apart the few cuts are, in bytes.
 const FEW: usize = 4096;
-
-// Gives the bytes before a place and those after it in reads of their own, and at most `most` of them a read.
-#[derive(Drop)]
-struct Pieces<'a> {
-    bytes: &'a [u8],
-    cut: usize,
-    most: usize,
-    // The number of the read that fails; 0 for none.
-    failing: u64,
-    // Whether each read after the last byte fails.
-    ends_failing: bool,
-    calls: u64,
-    faults: u64,
-}
-
-impl<'a> Source for Pieces<'a> {
-    ghost left = { λ _. None };
-
-    ghost faults = { λ s. s.faults };
-
-    fn read(&mut self, buf: &mut [u8]) -> Result<usize, Failed> {
-        self.calls = self.calls.saturating_add(1);
-        let fails = self.calls == self.failing || self.ends_failing && self.bytes.is_empty();
-        if fails && self.faults < u64::MAX {
-            self.faults += 1;
-            return Err(Failed);
-        }
-        let piece = if self.cut == 0 {
-            self.bytes.len()
-        } else {
-            self.cut.min(self.bytes.len())
-        };
-        let count = piece.min(self.most).min(buf.len());
-        buf[..count].copy_from_slice(&self.bytes[..count]);
-        self.bytes = &self.bytes[count..];
-        self.cut = self.cut.saturating_sub(count);
-        Ok(count)
-    }
-}
 
 fn from_pieces<'a>(case: &'a Case, cut: usize, most: usize, ends_failing: bool) -> Pieces<'a> {
     Pieces {

@@ -9,8 +9,6 @@ mod lists;
 mod names;
 mod port;
 mod table;
-#[cfg(test)]
-mod tests;
 
 pub use block::{Block, TooLong};
 pub use device::{DeviceAnswer, DeviceQuery, DeviceRules};

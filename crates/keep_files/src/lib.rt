@@ -11,8 +11,6 @@ mod packing;
 mod path;
 mod places;
 mod segments;
-#[cfg(test)]
-mod tests;
 mod unpacking;
 
 pub use fault::{PackError, UnpackError};

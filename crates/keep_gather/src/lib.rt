@@ -3,8 +3,6 @@
 
 mod gather;
 mod given;
-#[cfg(test)]
-mod tests;
 
 pub use gather::{Gather, Scanned};
 pub use given::{GivenPage, GivenScan};

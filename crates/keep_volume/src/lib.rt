@@ -5,8 +5,6 @@ mod digits;
 mod index;
 mod name_list;
 mod name_map;
-#[cfg(test)]
-mod tests;
 mod volume;
 
 pub use volume::{OpenError, Volume};

@@ -14,8 +14,6 @@ mod requests;
 mod response_head;
 mod session_end;
 mod target;
-#[cfg(test)]
-mod tests;
 mod writing;
 
 pub use keep_base::{Bytes, Source};

@@ -4,39 +4,21 @@ ghost use Rattle.std.specs.Prelude.{◌≡◌};
 use keep_event::{Held, Metadata, Name, Stored};
 use keep_store::{Failed, MemoryStore, Store, StoreError};
 
-// How many of its calls changed it, and whether the first after opening was a get.
+/// A store, and how many calls that change a store were made of it.
 #[derive(Drop)]
-pub(crate) struct Counted {
-    pub(crate) inner: MemoryStore,
-    calls: u64,
-    pub(crate) changes: u64,
-    pub(crate) begins_with_get: bool,
+pub struct Counted {
+    pub inner: MemoryStore,
+    pub changes: u64,
 }
 
 impl Counted {
-    pub(crate) fn over(inner: MemoryStore) -> Counted {
-        Counted {
-            inner,
-            calls: 0,
-            changes: 0,
-            begins_with_get: false,
-        }
-    }
-
-    // The third call is the first after the two at opening.
-    fn read(&mut self, is_get: bool)
-        ensures { self.new.inner ≡ self.old.inner }
-    {
-        self.calls = self.calls.saturating_add(1);
-        if self.calls == 3 {
-            self.begins_with_get = is_get;
-        }
+    pub fn over(inner: MemoryStore) -> Counted {
+        Counted { inner, changes: 0 }
     }
 
     fn change(&mut self)
         ensures { self.new.inner ≡ self.old.inner }
     {
-        self.read(false);
         self.changes = self.changes.saturating_add(1);
     }
 }
@@ -49,7 +31,6 @@ impl Store for Counted {
     ghost faults = { λ s. ⟦<MemoryStore as Store>⟧.faults s.inner };
 
     fn get(&mut self, name: &Name) -> Result<Option<Stored>, StoreError> {
-        self.read(true);
         self.inner.get(name)
     }
 
@@ -59,12 +40,10 @@ impl Store for Counted {
     }
 
     fn names_from(&mut self, after: Option<Name>, limit: usize) -> Result<Vec<Held>, StoreError> {
-        self.read(false);
         self.inner.names_from(after, limit)
     }
 
     fn stat(&mut self, name: &Name) -> Result<Option<Metadata>, Failed> {
-        self.read(false);
         self.inner.stat(name)
     }
 
@@ -84,7 +63,6 @@ impl Store for Counted {
     }
 
     fn note(&mut self) -> Result<u64, Failed> {
-        self.read(false);
         self.inner.note()
     }
 
