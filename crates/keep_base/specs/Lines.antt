@@ -1,7 +1,7 @@
 -- What a reader of lines has done and has left, and what comes next. Bounds are those of keep_base/src/lines.
 use Rattle.std.specs.Prelude.{◌≡◌, ℕ, ◌+◌, List, [], ◌∷◌, length, drop, Option, None, Some, Result, Ok, Err, ⊤}
-use Rattle.std.specs.Io.KnownBytes.{prepend_known, IsAtEnd}
-use Rattle.keep_spec.specs.Lines.{cut, text_of, Verdict, fits, line_too_long, input_too_long, verdict_of}
+use Rattle.std.specs.Io.KnownBytes.{prepend_known, IsAtEnd, Keeps}
+use Rattle.keep_spec.specs.Lines.{cut, text_of, newlines, Verdict, fits, line_too_long, input_too_long, verdict_of}
 use Rattle.keep_base.specs.declared.lines.Line.{Line}
 use Rattle.keep_base.specs.declared.lines.Lines.{Lines}
 use Rattle.keep_base.specs.declared.stream.Source.{Ghosts}
@@ -31,9 +31,19 @@ lines_source lines = lines.source.now
 abbrev pub lines_name : {R : Type 0} {G : Ghosts R} → Lines R G → ℕ
 lines_name lines = lines.source.ghost_name
 
+-- the bytes that were read from the source and are of no line that was returned
+abbrev pub lines_ahead : {R : Type 0} {G : Ghosts R} → Lines R G → List ℕ
+lines_ahead lines = drop lines.start lines.pending.items
+
+-- the source failed: no byte is lost, and no line stands whole in what was read of it and not returned
+pub record IsInterrupted {R : Type 0} {G : Ghosts R} (old new : Lines R G) : Type 0 where
+  pub left_stays : Keeps (lines_left old) (lines_left new)
+  pub no_newline : newlines (lines_ahead new) ≡ 0
+
 -- the input has ended: nothing is read ahead, nothing is left of the source, and no byte or line was counted
 pub record IsEnd {R : Type 0} {G : Ghosts R} (old new : Lines R G) : Type 0 where
-  pub none_ahead : drop new.start new.pending.items ≡ []
+  pub left_stays : Keeps (lines_left old) (lines_left new)
+  pub none_ahead : lines_ahead new ≡ []
   pub none_left : IsAtEnd (G.left new.source.now)
   pub taken_stays : lines_taken new ≡ lines_taken old
   pub number_stays : lines_number new ≡ lines_number old

@@ -8,8 +8,8 @@ ghost use Rattle.keep_base.specs.Ends.{IsNewlineFrom, IsJudged, IsFound, SameByt
 use crate::{Bytes, Source};
 use std::alloc::{AllocError, AllocFailed, Global};
 
-/// The most bytes of a line before its newline. So far a line has no bound of its own: this is more than an input can have.
-pub const LINE_MAX: u64 = 1073741825;
+/// The most bytes of a line before its newline.
+pub const LINE_MAX: u64 = 1_048_576;
 
 /// The most bytes of an input.
 pub const INPUT_MAX: u64 = 1073741824;
@@ -184,7 +184,7 @@ fn find<R: Source>(
 }
 
 impl<'a, R: Source> Lines<'a, R> {
-    ghost use Rattle.keep_base.specs.Lines.{lines_left, lines_failed, lines_taken, lines_number, lines_source, lines_name, IsNext, IsEnd};
+    ghost use Rattle.keep_base.specs.Lines.{lines_left, lines_failed, lines_taken, lines_number, lines_source, lines_name, IsNext, IsEnd, IsInterrupted};
 
     /// A reader of what the source has left. It reads nothing yet, and takes no memory.
     pub fn new(alloc: Global, source: &'a mut R) -> Lines<'a, R>
@@ -214,12 +214,13 @@ impl<'a, R: Source> Lines<'a, R> {
     }
 
     /// Returns the next line, or `None` at the end of the input: then the source has nothing left, nothing is read ahead, and no later call returns a line.
-    /// After an error each call returns the same error.
+    /// After an error each call returns the same error. `ReadFault` comes where the source failed: each line that stood whole in what it gave before was returned, and no byte of it is lost.
     pub fn next(&mut self) -> Result<Option<Line>, LineError>
         ensures same_reference { lines_name self.new ≡ lines_name self.old }
         ensures next_line { (lines_failed self.old) ≡ None →
             IsNext (lines_taken self.old) (lines_number self.old) (lines_left self.old) result (lines_taken self.new) (lines_left self.new) }
         ensures ended { result ≡ Ok None → IsEnd self.old self.new }
+        ensures interrupted { result ≡ Err LineError.ReadFault → (lines_failed self.old) ≡ None → IsInterrupted self.old self.new }
         ensures number { IfOk result (λ o. IfSome o (λ line. (line.number ≡ lines_number self.new) × (lines_number self.new ≡ lines_number self.old + 1))) }
         ensures advances { IfOk result (λ o. IfSome o (λ _. (lines_taken self.old) < (lines_taken self.new))) }
         ensures unfailed { OnOk result ((lines_failed self.old ≡ None) × (lines_failed self.new ≡ None)) }
@@ -242,6 +243,7 @@ impl<'a, R: Source> Lines<'a, R> {
         ensures same_reference { lines_name self.new ≡ lines_name self.old }
         ensures next_line { IsNext (lines_taken self.old) (lines_number self.old) (lines_left self.old) result (lines_taken self.new) (lines_left self.new) }
         ensures ended { result ≡ Ok None → IsEnd self.old self.new }
+        ensures interrupted { result ≡ Err LineError.ReadFault → IsInterrupted self.old self.new }
         ensures number { IfOk result (λ o. IfSome o (λ line. (line.number ≡ lines_number self.new) × (lines_number self.new ≡ lines_number self.old + 1))) }
         ensures advances { IfOk result (λ o. IfSome o (λ _. (lines_taken self.old) < (lines_taken self.new))) }
         ensures failed { (lines_failed self.new) ≡ (lines_failed self.old) }

@@ -14,6 +14,9 @@ use keep_base::{
 };
 use std::alloc::Global;
 
+// The longest line that is shown.
+const SHOWN: usize = 64;
+
 pub fn answer(alloc: Global, case: &Case, answer: &mut Answer) {
     if case.value("reader").is_some() {
         return answer_lines(alloc, case, &mut ReaderSource::new(case.input()), answer);
@@ -62,10 +65,15 @@ fn answer_lines<S: Source>(alloc: Global, case: &Case, source: &mut S, answer: &
 }
 
 fn answer_line(line: &Line, answer: &mut Answer) {
+    let text = line.text.as_slice();
     answer.number(line.number);
-    if !line.text.as_slice().is_empty() {
+    if text.len() > SHOWN {
+        answer.text(b" of ");
+        answer.number(text.len() as u64);
+        answer.text(b" bytes");
+    } else if !text.is_empty() {
         answer.text(b" ");
-        answer.text(line.text.as_slice());
+        answer.text(text);
     }
     answer.end();
 }

@@ -10,9 +10,9 @@ use Rattle.keep_event.specs.Device.{State}
 use Rattle.keep_event.specs.Table as tables
 use Rattle.keep_history.specs.Effects.{Made, Effect, effect_of_line}
 
--- A line has no bound of its own yet: this is more than an input can have.
+-- the most bytes of a line before its newline: 2^20
 abbrev pub line_max : ℕ
-line_max = 1073741825
+line_max = 1048576
 
 -- the most bytes of an input: 2^30
 abbrev pub input_max : ℕ

@@ -7,6 +7,11 @@ unfoldable pub cut : List ℕ → List (List ℕ)
 cut [] = []
 cut (x ∷ xs) = if x == 10 then (x ∷ []) ∷ cut xs else onto_first x (cut xs)
 
+-- how many newlines there are
+unfoldable pub newlines : List ℕ → ℕ
+newlines [] = 0
+newlines (x ∷ xs) = if x == 10 then newlines xs + 1 else newlines xs
+
 -- a piece without its newline
 unfoldable pub text_of : List ℕ → List ℕ
 text_of [] = []

@@ -1,6 +1,9 @@
-use Rattle.std.proofs.Common.{◌≡◌, take, drop, refl, arith}
+use Rattle.std.proofs.Common.{◌≡◌, ◌+◌, take, drop, refl, arith}
 use Rattle.std.proofs.lemmas.Grind.{common_steps}
 use Rattle.std.proofs.lemmas.List.{drop-drop}
+use Rattle.keep_base.specs.declared.lines.LineError.TheVariants as E
+use Rattle.keep_base.specs.Ends.{error_of_stop}
+use Rattle.keep_base.proofs.Interrupted.{interrupted}
 use Rattle.keep_base.proofs.NextLine.{next_given, next_stopped}
 use Rattle.keep_base.proofs.lines.Lines.advance.Goals as goal
 
@@ -14,3 +17,9 @@ returns-clause-next_line g c =
     let start = c.find.new.start in
     let text : c.of.result ≡ take c.in-Ok-Some.found.text (drop start read) = grind (arith, common_steps) in
     rw (← drop-drop c.in-Ok-Some.found.piece start read) (next_given _ _ _ _ _ _ _ _ _ c.in-Ok-Some.ensures.bytes found.0 found.1 text refl)
+
+pub returns-in-Err-clause-interrupted : goal.returns-in-Err-clause-interrupted
+returns-in-Err-clause-interrupted g c = λ e.
+    let named : error_of_stop c.in-Err.stop (c.args.self.now.number + 1) ≡ E.ReadFault = cc in
+    let i = interrupted _ _ _ _ _ _ c.in-Err.stop named c.in-Err.ensures.bytes c.in-Err.ensures.found in
+    record { left_stays = i.0; no_newline = i.1 }
