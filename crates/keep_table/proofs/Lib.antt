@@ -1,5 +1,7 @@
 pub mod Counts
 pub mod Keyed
+pub mod Mentions
+pub mod Newest
 pub mod Orderly
 pub mod Places
 pub mod ReadCases

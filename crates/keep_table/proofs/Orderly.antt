@@ -1,18 +1,20 @@
--- Records stay in the order of their revisions, and of each collection at most one stays current.
-use Rattle.std.proofs.Common.{◌≡◌, ◌≤◌, ◌<◌, ◌+◌, ℕ, List, [], ◌∷◌, ◌++◌, map, filter, count_by, take, max, Bool, true, false, cond, arith, refl, sym, ap, ◌∙◌, zero, suc, nat_eq, not}
+-- Records stay in the order of their revisions, the newest of each collection current and the others not.
+use Rattle.std.proofs.Common.{◌≡◌, ◌≤◌, ◌<◌, ◌+◌, ℕ, List, [], ◌∷◌, ◌++◌, map, filter, count_by, take, max, Bool, true, false, cond, arith, refl, ap, ◌∙◌, zero, suc, nat_eq, not}
 use Rattle.std.specs.Prelude.{nat_lt, Option, None, Some, Ok, Err}
-use Rattle.std.specs.List.{find}
-use Rattle.std.specs.List.{AllByRecursion}
-use Rattle.std.proofs.lemmas.Bool.{and_left, and_right, ne_eqb, eq-eqb, eqb-true, ltb-true}
-use Rattle.keep_event.specs.Table.{State, superseded, is_current_of, is_of, is_current, is_held, row_of, rows_above, with_times, collection_of, updatable}
+use Rattle.std.specs.List.{find, list_any, AllByRecursion}
+use Rattle.std.specs.Option.{option_map_or}
+use Rattle.std.proofs.lemmas.Bool.{and_parts, and_from, and_right, ne_eqb, eq-eqb, eqb-true, ltb-true}
+use Rattle.keep_event.specs.Table.{State, superseded, is_current_of, is_of, is_current, is_held, is_due, is_due_of, is_gone, goes, outlasts, row_of, rows_above, with_times, collection_of, updatable}
 use Rattle.keep_event.specs.declared.table.Record.{Record}
 use Rattle.keep_event.specs.declared.table.Collection.{Collection}
 use Rattle.keep_event.specs.declared.table.TableAnswer.TheVariants.{NoSuch}
 use Rattle.keep_spec.specs.declared.token.TokenId.{TokenId}
 use Rattle.keep_event.specs.declared.table.ScanRow.{ScanRow}
 use Rattle.keep_event.specs.declared.table.Standing.{Standing}
+use Rattle.keep_event.specs.declared.table.Standing.TheVariants.{Current, Kept, Preserved}
 use Rattle.keep_table.specs.Contents.{AreOrderly, AreDrawn, IsDrawn, RisesAbove}
-use Rattle.keep_table.proofs.Counts.{bit, bit-le-1, count-push, count-filter, count-map, count-cons}
+use Rattle.keep_table.proofs.Counts.{bit, bit-le-1, count-push, count-filter, count-map}
+use Rattle.keep_table.proofs.Newest.{one-current, superseded-created, superseded-filter, superseded-updated}
 
 -- ---- records whose numbers were drawn
 
@@ -78,80 +80,58 @@ revisions-map number standing (r ∷ rs) = rw (revision-standing standing (is_cu
 
 -- ---- current records
 
--- a record that is superseded is current no more
-current-standing : (n : ℕ) (standing : Standing) (b : Bool) (r : Record) → is_current standing ≡ false → bit (is_current_of n (cond b (standing_as standing r) r)) ≤ bit (is_current_of n r)
-current-standing n standing true r e = rw (e, and_right (is_of n r) false refl) (omega arith)
-current-standing n standing false r e = omega arith
+-- what is current isn't due
+pub current-not-due : (reading : ℕ) (s : Standing) → is_current s ≡ true → is_due reading s ≡ false
+current-not-due reading Current e = refl
+current-not-due reading (Kept until) e = absurd (cc)
+current-not-due reading Preserved e = refl
 
-one-current-map : (n number : ℕ) (standing : Standing) (rs : List Record) → is_current standing ≡ false → count_by (is_current_of n) (map (superseded number standing) rs) ≤ count_by (is_current_of n) rs
-one-current-map n number standing [] e = omega arith
-one-current-map n number standing (r ∷ rs) e =
-    let here = current-standing n standing (is_current_of number r) r e in
-    let there = one-current-map n number standing rs e in
-    rw (count-cons (is_current_of n) (superseded number standing r) (map (superseded number standing) rs), count-cons (is_current_of n) r rs) (omega arith)
+-- a collection of the next number has no record
+none-of-next : (n m number : ℕ) (rs : List Record) → n < number → AllByRecursion (IsDrawn n m) rs → list_any (is_of number) rs ≡ false
+none-of-next n m number [] lt h = refl
+none-of-next n m number (r ∷ rs) lt h = rw (ne_eqb r.collection number (λ e. omega (arith, h.0.collection))) (none-of-next n m number rs lt h.1)
 
-superseded-none : (number : ℕ) (standing : Standing) (r : Record) (b : Bool) → is_current standing ≡ false → is_current_of number r ≡ b → bit (is_current_of number (cond b (standing_as standing r) r)) ≡ 0
-superseded-none number standing r true e is = rw (e, and_right (is_of number r) false refl) refl
-superseded-none number standing r false e is = rw is refl
+-- where a record outlasts a sweep, so does the current one of its collection
+pub outlasts-together : (reading : ℕ) (xs : List Collection) (r c : Record) → outlasts reading xs r ≡ true → is_of r.collection c ≡ true → is_current c.standing ≡ true → outlasts reading xs c ≡ true
+outlasts-together reading xs r c stays of current =
+    let same : c.collection ≡ r.collection = eqb-true c.collection r.collection of in
+    let parts = and_parts (not (goes reading xs r)) (not (is_due reading r.standing)) stays in
+    rw (current-not-due reading c.standing current) (and_from (not (goes reading xs c)) true (ap (λ (k : ℕ). not (option_map_or (is_gone reading) (find (λ x. nat_eq x.number k) xs) false)) same ∙ parts.0) refl)
 
-none-current-map : (number : ℕ) (standing : Standing) (rs : List Record) → is_current standing ≡ false → count_by (is_current_of number) (map (superseded number standing) rs) ≡ 0
-none-current-map number standing [] e = refl
-none-current-map number standing (r ∷ rs) e =
-    let here = superseded-none number standing r (is_current_of number r) e refl in
-    let there = none-current-map number standing rs e in
-    rw (count-cons (is_current_of number) (superseded number standing r) (map (superseded number standing) rs)) (omega arith)
-
--- a record of another collection isn't its current one
-none-current : (n m number : ℕ) (rs : List Record) → n < number → AllByRecursion (IsDrawn n m) rs → count_by (is_current_of number) rs ≡ 0
-none-current n m number [] lt h = refl
-none-current n m number (r ∷ rs) lt h =
-    let other : nat_eq r.collection number ≡ false = ne_eqb r.collection number (λ e. omega (arith, h.0.collection)) in
-    let there = none-current n m number rs lt h.1 in
-    rw (count-cons (is_current_of number) r rs, and_left (is_of number r) (is_current r.standing) other) (omega arith)
-
-one-with : (n : ℕ) (rs : List Record) (r : Record) (b : Bool) → is_of n r ≡ b → count_by (is_current_of n) rs ≤ 1 → count_by (is_current_of r.collection) rs ≡ 0 → count_by (is_current_of n) (rs ++ r ∷ []) ≤ 1
-one-with n rs r true is one none =
-    let same : r.collection ≡ n = eqb-true r.collection n is in
-    let zero_of : count_by (is_current_of n) rs ≡ 0 = ap (λ k. count_by (is_current_of k) rs) (sym same) ∙ none in
-    let last = bit-le-1 (is_current_of n r) in
-    rw (count-push (is_current_of n) rs r) (omega arith)
-one-with n rs r false is one none = rw (count-push (is_current_of n) rs r, and_left (is_of n r) (is_current r.standing) is) (omega arith)
+-- an update takes no current record out
+pub update-keeps-current : (reading number : ℕ) (c : Record) → is_current c.standing ≡ true → not (is_due_of reading number c) ≡ true
+update-keeps-current reading number c current = rw (current-not-due reading c.standing current, and_right (is_of number c) false refl) refl
 
 -- ---- the changes
 
-pub orderly-push : (n m n' : ℕ) (rs : List Record) (r : Record) → n ≤ n' → r.collection ≤ n' → r.version ≤ m + 1 → r.revision ≡ m + 1 →
-    count_by (is_current_of r.collection) rs ≡ 0 → AreOrderly n m rs → AreOrderly n' (m + 1) (rs ++ r ∷ [])
-orderly-push n m n' rs r le c v e none h = record {
+pub orderly-created : (n m : ℕ) (rs : List Record) (r : Record) → is_current r.standing ≡ true → r.collection ≡ n + 1 → r.version ≤ m + 1 → r.revision ≡ m + 1 → AreOrderly n m rs → AreOrderly (n + 1) (m + 1) (rs ++ r ∷ [])
+orderly-created n m rs r current c v e h = record {
   rising = rises-push 0 n m rs r (omega arith) h.drawn h.rising (omega arith);
-  drawn = all-push (IsDrawn n' (m + 1)) rs r (more-drawn n m n' (m + 1) rs le (omega arith) h.drawn) (record { collection = c; version = v; revision = omega arith });
-  one_current = λ k. one-with k rs r (is_of k r) refl (h.one_current k) none;
+  drawn = all-push (IsDrawn (n + 1) (m + 1)) rs r (more-drawn n m (n + 1) (m + 1) rs (omega arith) (omega arith) h.drawn) (record { collection = omega arith; version = v; revision = omega arith });
+  superseded = superseded-created rs r current (none-of-next n m r.collection rs (omega arith) h.drawn) h.superseded;
 }
 
-pub orderly-created : (n m : ℕ) (rs : List Record) (r : Record) → r.collection ≡ n + 1 → r.version ≤ m + 1 → r.revision ≡ m + 1 → AreOrderly n m rs → AreOrderly (n + 1) (m + 1) (rs ++ r ∷ [])
-orderly-created n m rs r c v e h = orderly-push n m (n + 1) rs r (omega arith) (omega arith) v e (none-current n m r.collection rs (omega arith) h.drawn) h
-
-pub orderly-filter : (n m : ℕ) (q : Record → Bool) (rs : List Record) → AreOrderly n m rs → AreOrderly n m (filter q rs)
-orderly-filter n m q rs h = record {
+-- records of which the current ones stay with the others of their collection
+pub orderly-filter : (n m : ℕ) (q : Record → Bool) (rs : List Record) → ((r c : Record) → q r ≡ true → is_of r.collection c ≡ true → is_current c.standing ≡ true → q c ≡ true) → AreOrderly n m rs → AreOrderly n m (filter q rs)
+orderly-filter n m q rs stays h = record {
   rising = rises-filter 0 q rs h.rising;
   drawn = all-filter (IsDrawn n m) q rs h.drawn;
-  one_current = λ k. (let one = h.one_current k in let fewer = count-filter (is_current_of k) q rs in omega arith);
-}
-
-pub orderly-superseded : (n m number : ℕ) (standing : Standing) (rs : List Record) → is_current standing ≡ false → AreOrderly n m rs → AreOrderly n m (map (superseded number standing) rs)
-orderly-superseded n m number standing rs e h = record {
-  rising = rw (revisions-map number standing rs) h.rising;
-  drawn = drawn-map n m number standing rs h.drawn;
-  one_current = λ k. (let one = h.one_current k in let fewer = one-current-map k number standing rs e in omega arith);
+  superseded = superseded-filter q rs stays h.superseded;
 }
 
 -- an update's records: due ones gone, the current one superseded, and a new one
-pub orderly-updated : (n m number : ℕ) (standing : Standing) (q : Record → Bool) (rs : List Record) (r : Record) → is_current standing ≡ false →
-    r.collection ≡ number → number ≤ n → r.version ≤ m + 1 → r.revision ≡ m + 1 → AreOrderly n m rs →
-    AreOrderly n (m + 1) (map (superseded number standing) (filter q rs) ++ r ∷ [])
-orderly-updated n m number standing q rs r e is le v revision h =
-    orderly-push n m n (map (superseded number standing) (filter q rs)) r (omega arith) (omega arith) v revision
-    (ap (λ k. count_by (is_current_of k) (map (superseded number standing) (filter q rs))) is ∙ none-current-map number standing (filter q rs) e)
-    (orderly-superseded n m number standing (filter q rs) e (orderly-filter n m q rs h))
+pub orderly-updated : (n m : ℕ) (standing : Standing) (q : Record → Bool) (rs : List Record) (r : Record) → is_current standing ≡ false → is_current r.standing ≡ true → ((c : Record) → is_current c.standing ≡ true → q c ≡ true) →
+    r.collection ≤ n → r.version ≤ m + 1 → r.revision ≡ m + 1 → AreOrderly n m rs →
+    AreOrderly n (m + 1) (map (superseded r.collection standing) (filter q rs) ++ r ∷ [])
+orderly-updated n m standing q rs r other current stays le v e h =
+    let kept = orderly-filter n m q rs (λ r c k of is. stays c is) h in
+    let drawn = drawn-map n m r.collection standing (filter q rs) kept.drawn in
+    record {
+      rising = rises-push 0 n m (map (superseded r.collection standing) (filter q rs)) r (omega arith) drawn (rw (revisions-map r.collection standing (filter q rs)) kept.rising) (omega arith);
+      drawn = all-push (IsDrawn n (m + 1)) (map (superseded r.collection standing) (filter q rs)) r (more-drawn n m n (m + 1) (map (superseded r.collection standing) (filter q rs)) (omega arith) (omega arith) drawn)
+          (record { collection = le; version = v; revision = omega arith });
+      superseded = superseded-updated standing (filter q rs) r other current kept.superseded;
+    }
 
 -- ---- how many versions an update leaves
 
@@ -170,7 +150,7 @@ held-updated n m reading number versions standing q rs r e h few =
     let changed = count-map (is_held reading number) (is_held reading number) (is_current_of number) (superseded number standing) (filter q rs) (λ x. held-standing reading number standing x (is_current_of number x) refl) in
     let held = count-filter (is_held reading number) q rs in
     let current = count-filter (is_current_of number) q rs in
-    let one = h.one_current number in
+    let one = one-current number rs h.superseded in
     rw (count-push (is_held reading number) (map (superseded number standing) (filter q rs)) r, current-not-held reading number r e) (omega arith)
 
 -- ---- scans

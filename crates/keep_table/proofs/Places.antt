@@ -1,5 +1,5 @@
 -- The set of each record's collection and revision.
-use Rattle.std.proofs.Common.{◌≡◌, ◌<◌, ◌≤◌, ◌++◌, ◌&&◌, ◌||◌, ℕ, List, [], ◌∷◌, Bool, true, false, cond, not, map, filter, nat_eq, Option, Some, None, refl, ap, sym, subst, ◌∙◌, arith, inl, inr, ⊎_elim}
+use Rattle.std.proofs.Common.{◌≡◌, ◌<◌, ◌≤◌, ◌++◌, ◌&&◌, ◌||◌, ℕ, List, [], ◌∷◌, Bool, true, false, cond, not, map, filter, nat_eq, Some, None, refl, ap, sym, subst, ◌∙◌, arith, ⊎_elim}
 use Rattle.std.specs.Prelude.{nat_lt}
 use Rattle.std.specs.List.{find, list_any, AllByRecursion}
 use Rattle.std.specs.Prelude.{IsTrue, IfSome, slice_get}
@@ -10,7 +10,7 @@ use Rattle.std.specs.declared.ops.Bound.TheVariants.{Excluded, Unbounded}
 use Rattle.std.specs.Ordering.{nat_cmp, is_eq, is_gt, ordering_then}
 use Rattle.std.specs.declared.cmp.Ordering.{Ordering}
 use Rattle.std.specs.declared.cmp.Ordering.TheVariants.{Less, Equal, Greater}
-use Rattle.std.proofs.lemmas.Bool.{ne_eqb, eq-eqb, eqb-true, eqb-false, lt-ltb, le-ltb, ltb-true, and_parts, and_from, and_left, and_right, or_cases, or_left, or_right, or_parts, false_from_ne_true, cases_Bool, both_ways}
+use Rattle.std.proofs.lemmas.Bool.{ne_eqb, eq-eqb, eqb-true, lt-ltb, le-ltb, ltb-true, and_parts, and_from, and_right, or_cases, or_left, or_right, or_parts, false_from_ne_true, both_ways}
 use Rattle.std.proofs.lemmas.Bool.Decides.{nat_tests}
 use Rattle.std.proofs.lemmas.List.Folds.{list_any-append}
 use Rattle.keep_event.specs.Table.{is_of}
@@ -20,7 +20,7 @@ use Rattle.keep_table.specs.Contents.{RisesAbove}
 use Rattle.keep_table.specs.Maps.{is_next, is_at_place, place_cmp, marked, standing_as, revisions_of}
 use Rattle.keep_table.proofs.Keyed.{at-eq, without-none}
 
-eq-then : (a b : Ordering) → is_eq (ordering_then a b) ≡ (is_eq a && is_eq b)
+pub eq-then : (a b : Ordering) → is_eq (ordering_then a b) ≡ (is_eq a && is_eq b)
 eq-then Less b = refl
 eq-then Equal b = refl
 eq-then Greater b = refl
@@ -136,6 +136,28 @@ place-standing n v standing false r = refl
 pub place-marked : (n v k : ℕ) (standing : Standing) (rs : List Record) → list_any (is_at_place n v) (map (marked k standing) rs) ≡ list_any (is_at_place n v) rs
 place-marked n v k standing [] = refl
 place-marked n v k standing (r ∷ rs) = rw (place-standing n v standing (nat_eq r.revision k) r, place-marked n v k standing rs) refl
+
+-- ---- revisions below a bound
+
+pub below-push : (m : ℕ) (rs : List Record) (r : Record) → AllByRecursion (λ r. r.revision < m) rs → r.revision < m → AllByRecursion (λ r. r.revision < m) (rs ++ r ∷ [])
+below-push m [] r h lt = (lt, tt)
+below-push m (q ∷ rs) r h lt = (h.0, below-push m rs r h.1 lt)
+
+below-cond : (m : ℕ) (b : Bool) (r : Record) (rs : List Record) → r.revision < m → AllByRecursion (λ r. r.revision < m) rs → AllByRecursion (λ r. r.revision < m) (cond b (r ∷ rs) rs)
+below-cond m true r rs lt h = (lt, h)
+below-cond m false r rs lt h = h
+
+pub below-filter : (m : ℕ) (q : Record → Bool) (rs : List Record) → AllByRecursion (λ r. r.revision < m) rs → AllByRecursion (λ r. r.revision < m) (filter q rs)
+below-filter m q [] h = tt
+below-filter m q (r ∷ rs) h = below-cond m (q r) r (filter q rs) h.0 (below-filter m q rs h.1)
+
+below-standing : (m : ℕ) (standing : Standing) (b : Bool) (r : Record) → r.revision < m → (cond b (standing_as standing r) r).revision < m
+below-standing m standing true r h = h
+below-standing m standing false r h = h
+
+pub below-marked : (m k : ℕ) (standing : Standing) (rs : List Record) → AllByRecursion (λ r. r.revision < m) rs → AllByRecursion (λ r. r.revision < m) (map (marked k standing) rs)
+below-marked m k standing [] h = tt
+below-marked m k standing (r ∷ rs) h = (below-standing m standing (nat_eq r.revision k) r h.0, below-marked m k standing rs h.1)
 
 -- ---- the first record of a collection above a revision
 

@@ -10,7 +10,7 @@ use Rattle.keep_event.specs.declared.table.Standing.{Standing}
 use Rattle.keep_event.specs.declared.table.Standing.TheVariants.{Current, Kept, Preserved}
 use Rattle.keep_event.specs.declared.table.Record.{Record}
 use Rattle.keep_table.specs.Contents.{RisesAbove}
-use Rattle.keep_table.specs.Maps.{marked, standing_as, revisions_of}
+use Rattle.keep_table.specs.Maps.{marked, revisions_of}
 use Rattle.keep_table.proofs.Counts.{count-cons, bit}
 use Rattle.keep_table.proofs.Steps.{found-above}
 

@@ -1,5 +1,5 @@
 -- A walk over records in the order of their revisions.
-use Rattle.std.proofs.Common.{◌≡◌, max, ◌<◌, ◌≤◌, ◌+◌, ◌&&◌, ◌||◌, ℕ, List, [], ◌∷◌, Bool, true, false, cond, not, map, filter, length, nat_eq, Option, Some, None, refl, ap, sym, ◌∙◌, ◌++◌, append_assoc, append-nil, length-append, arith}
+use Rattle.std.proofs.Common.{◌≡◌, max, ◌<◌, ◌+◌, ◌&&◌, ◌||◌, ℕ, List, [], ◌∷◌, Bool, true, false, not, map, filter, length, nat_eq, Option, Some, None, refl, ap, sym, ◌∙◌, ◌++◌, append_assoc, append-nil, length-append, arith}
 use Rattle.std.specs.Prelude.{count_by}
 use Rattle.std.specs.List.{find}
 use Rattle.std.proofs.lemmas.Bool.{and_parts, cond-true, cond-false}

@@ -1,11 +1,11 @@
 -- What contracts see of a table (its rules and the table machine's state), the invariant of its records and collections, and what a call does.
-use Rattle.std.specs.Prelude.{◌≡◌, ◌≤◌, ◌<◌, ⊤, ℕ, Bool, true, false, List, [], ◌∷◌, map, count_by, Result, Ok, Err}
-use Rattle.std.specs.List.{AllByRecursion}
+use Rattle.std.specs.Prelude.{◌≡◌, ◌≤◌, ◌<◌, ⊤, ℕ, Bool, true, false, not, List, [], ◌∷◌, map, Result, Ok, Err}
+use Rattle.std.specs.List.{AllByRecursion, list_any}
 use Rattle.keep_spec.specs.declared.memory.NoMemory.{NoMemory}
 use Rattle.keep_event.specs.declared.table.TableRules.{TableRules}
 use Rattle.keep_event.specs.declared.table.TableAnswer.{TableAnswer}
 use Rattle.keep_event.specs.declared.table.TableAnswer.TheVariants.{Updated, Rows}
-use Rattle.keep_event.specs.Table.{State, Reply, is_current_of}
+use Rattle.keep_event.specs.Table.{State, Reply, is_current, is_of}
 use Rattle.keep_event.specs.declared.table.Record.{Record}
 use Rattle.keep_event.specs.declared.table.Collection.{Collection}
 
@@ -20,11 +20,16 @@ pub record IsDrawn (numbers revisions : ℕ) (r : Record) : Type 0 where
   pub version : r.version ≤ revisions
   pub revision : r.revision ≤ revisions
 
--- records in the order of their revisions, of each collection at most one that is current
+-- a record is current exactly where no later one is of its collection
+abbrev pub AreSuperseded : List Record → Type 0
+AreSuperseded [] = ⊤
+AreSuperseded (r ∷ rs) = (is_current r.standing ≡ not (list_any (is_of r.collection) rs)) × AreSuperseded rs
+
+-- records in the order of their revisions, the newest of each collection current and the others not
 pub record AreOrderly (numbers revisions : ℕ) (rs : List Record) : Type 0 where
   pub rising : RisesAbove 0 (map (λ r. r.revision) rs)
   pub drawn : AllByRecursion (IsDrawn numbers revisions) rs
-  pub one_current : (number : ℕ) → count_by (is_current_of number) rs ≤ 1
+  pub superseded : AreSuperseded rs
 
 -- no collection's number is above those that were drawn
 abbrev pub AreDrawn : ℕ → List Collection → Type 0

@@ -1,6 +1,6 @@
 -- The maps in which a table keeps its records and collections, against the lists that contracts see.
-use Rattle.std.specs.Prelude.{◌≡◌, ℕ, Bool, true, ◌==◌, ◌&&◌, nat_lt, List, map, if◌then◌else◌}
-use Rattle.std.specs.List.{list_any}
+use Rattle.std.specs.Prelude.{◌≡◌, ◌<◌, ◌^◌, ℕ, Bool, true, ◌==◌, ◌&&◌, nat_lt, List, map, if◌then◌else◌}
+use Rattle.std.specs.List.{list_any, AllByRecursion}
 use Rattle.std.specs.Map.{values_of}
 use Rattle.std.specs.BTreeSet.{BTreeSet, contains}
 use Rattle.std.specs.Ordering.{nat_cmp, ordering_then}
@@ -10,6 +10,7 @@ use Rattle.keep_event.specs.declared.table.Standing.{Standing}
 use Rattle.keep_event.specs.declared.table.Record.{Record}
 use Rattle.keep_event.specs.declared.table.Collection.{Collection}
 use Rattle.keep_table.specs.Contents.{RisesAbove}
+use Rattle.keep_table.specs.Wants.{counted, mentioned}
 
 -- the entries of a map whose values each stand under their own key
 abbrev pub keyed : {X : Type 0} → (X → ℕ) → List X → List (ℕ × X)
@@ -51,11 +52,13 @@ standing_as standing r = record { collection = r.collection; version = r.version
 abbrev pub marked : ℕ → Standing → Record → Record
 marked revision standing r = if r.revision == revision then standing_as standing r else r
 
--- each record stands under its revision, the revisions rise, and the set has the collection and the revision of each record and no other pair
-pub record AreIndexed (rows : List (ℕ × Record)) (places : BTreeSet (ℕ × ℕ)) : Type 0 where
+-- each record stands under its revision, the revisions rise, the set has the collection and the revision of each record and no other pair, and what is wanted is counted as the records name it
+pub record AreIndexed (rows : List (ℕ × Record)) (places : BTreeSet (ℕ × ℕ)) (wants : List ((List ℕ × ℕ) × ℕ)) : Type 0 where
   pub by_revision : rows ≡ keyed (λ r. r.revision) (values_of rows)
   pub rising : RisesAbove 0 (revisions_of (values_of rows))
+  pub drawn : AllByRecursion (λ r. r.revision < 2 ^ 64) (values_of rows)
   pub of_each : (number revision : ℕ) → contains place_cmp places (number, revision) ≡ list_any (is_at_place number revision) (values_of rows)
+  pub of_wants : (h : List ℕ) (n : ℕ) → counted wants h n ≡ mentioned h n (values_of rows)
 
 -- each collection stands under its number, and the numbers rise
 pub record AreNumbered (held : List (ℕ × Collection)) : Type 0 where

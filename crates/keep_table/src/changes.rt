@@ -4,15 +4,13 @@ ghost use Rattle.std.specs.List.{find, AllByRecursion};
 ghost use Rattle.std.specs.Option.{option_map_or};
 ghost use Rattle.keep_event.specs.Table as machine;
 ghost use Rattle.keep_spec.specs.Times.{IsReading};
-ghost use Rattle.keep_spec.specs.Members.{names};
-ghost use Rattle.keep_event.specs.Plan.{wanted_in};
-ghost use Rattle.keep_table.specs.Contents.{RisesAbove};
+ghost use Rattle.keep_table.specs.Contents.{RisesAbove, AreSuperseded};
 ghost use Rattle.keep_table.specs.Maps.{revisions_of};
 
 use crate::collections::Collections;
 use crate::records::Records;
 use keep_event::{Collection, NewRecord, Record, ScanRow, Standing, TableAnswer, TableRules};
-use keep_spec::{Digest, Items, NANOS_PER_SECOND, NoMemory, TokenId, grace_nanos};
+use keep_spec::{Items, NANOS_PER_SECOND, NoMemory, TokenId, grace_nanos};
 use std::alloc::Global;
 
 pub(crate) fn new_record(number: u64, version: u64, revision: u64, made: NewRecord) -> Record
@@ -96,9 +94,10 @@ pub(crate) fn is_owner(token: TokenId, collection: &Collection) -> bool
 
 /// Returns the version of a collection's current record, or 0 where it has none.
 pub(crate) fn current_version(records: &Records, number: u64) -> u64
+    requires { AreSuperseded records.now }
     ensures { result ≡ option_map_or (λ r. r.version) (find (machine.is_current_of number) records.now) 0 }
 {
-    match version_of(records, number, None) {
+    match records.current_of(number) {
         Some(row) => row.version,
         None => 0,
     }
@@ -106,9 +105,10 @@ pub(crate) fn current_version(records: &Records, number: u64) -> u64
 
 /// Returns the revision of a collection's current record, or 0 where it has none.
 fn current_revision(records: &Records, number: u64) -> u64
+    requires { AreSuperseded records.now }
     ensures { result ≡ option_map_or (λ r. r.revision) (find (machine.is_current_of number) records.now) 0 }
 {
-    match version_of(records, number, None) {
+    match records.current_of(number) {
         Some(row) => row.revision,
         None => 0,
     }
@@ -125,7 +125,7 @@ pub(crate) fn renew(
     requires newest { AllByRecursion (λ r. r.revision < row.revision) records.old }
     requires rising { RisesAbove 0 (revisions_of records.old) }
     requires current { machine.is_current row.standing ≡ true }
-    requires one_current { count_by (machine.is_current_of row.collection) records.old ≤ 1 }
+    requires superseded { AreSuperseded records.old }
     ensures { records.new ≡ (if is_ok result then map (machine.superseded row.collection standing) (filter (λ r. not (machine.is_due_of reading row.collection r)) records.old) ++ row ∷ [] else records.old) }
 {
     let number = row.collection;
@@ -272,6 +272,17 @@ fn is_preserved(standing: &Standing) -> bool
 
 /// Returns a collection's current record, or the version asked for where it can be read.
 pub(crate) fn version_of(records: &Records, number: u64, version: Option<u64>) -> Option<&Record>
+    requires { AreSuperseded records.now }
+    ensures { option_map (λ r. r.now) result ≡ find (machine.is_readable number version) records.now }
+{
+    match version {
+        None => records.current_of(number),
+        Some(_) => readable_of(records, number, version),
+    }
+}
+
+// The same, by a walk over the collection's records.
+fn readable_of(records: &Records, number: u64, version: Option<u64>) -> Option<&Record>
     ensures { option_map (λ r. r.now) result ≡ find (machine.is_readable number version) records.now }
 {
     let mut after = 0;
@@ -282,43 +293,6 @@ pub(crate) fn version_of(records: &Records, number: u64, version: Option<u64>) -
         after = row.revision;
     }
     None
-}
-
-// Whether a digest is among those that a record names.
-fn is_named(digest: &Digest, named: &[Digest]) -> bool
-    ensures { result ≡ names digest.now named.now }
-{
-    let bytes = digest.to_md5();
-    for other in named {
-        if bytes == other.to_md5() {
-            return true;
-        }
-    }
-    false
-}
-
-/// Returns the greatest number of copies that the records want of a digest, or 0 where none names it.
-pub(crate) fn wanted(records: &Records, digest: &Digest) -> u8
-    ensures { result ≡ wanted_in digest.now (map machine.row_of records.now) }
-{
-    let mut most = 0;
-    let mut after = 0;
-    while let Some(row) = records.next_above(after) {
-        after = row.revision;
-        most = want_of(digest, row).max(most);
-    }
-    most
-}
-
-// What a record wants of a digest, or 0 where it doesn't name it.
-fn want_of(digest: &Digest, row: &Record) -> u8
-    ensures { result ≡ (if names digest.now row.now.made.named then row.now.made.want else 0) }
-{
-    if is_named(digest, row.made.named.as_slice()) {
-        row.made.want
-    } else {
-        0
-    }
 }
 
 // A reading in whole seconds.

@@ -5,6 +5,7 @@ mod changes;
 mod collections;
 mod records;
 mod table;
+mod wants;
 
 pub use keep_event::{
     Collection, NewRecord, Record, SaveRequest, ScanRow, Standing, TableAnswer, TableRules,

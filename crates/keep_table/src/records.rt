@@ -1,12 +1,14 @@
-// The records of a table: an ordered map by revision, and beside it the revisions of each collection.
+// The records of a table: an ordered map by revision, and beside it the revisions of each collection and what is wanted of each digest.
 ghost use Rattle.std.specs.Prelude.{◌≡◌, ◌==◌, ◌<◌, ◌^◌, ◌++◌, ◌∷◌, [], not, map, filter, length, option_map, is_ok, if◌then◌else◌};
 ghost use Rattle.std.specs.List.{find, AllByRecursion};
-ghost use Rattle.keep_event.specs.Table.{is_of};
-ghost use Rattle.keep_table.specs.Contents.{RisesAbove};
+ghost use Rattle.keep_event.specs.Table.{is_of, is_current_of, row_of};
+ghost use Rattle.keep_event.specs.Plan.{wanted_in};
+ghost use Rattle.keep_table.specs.Contents.{RisesAbove, AreSuperseded};
 ghost use Rattle.keep_table.specs.Maps.{is_next, any_record, marked, revisions_of};
 
+use crate::wants::Wants;
 use keep_event::{Record, Standing};
-use keep_spec::NoMemory;
+use keep_spec::{Digest, NoMemory};
 use std::alloc::Global;
 use std::collections::{BTreeMap, BTreeSet};
 use std::marker::Model;
@@ -19,6 +21,8 @@ pub(crate) struct Records {
     rows: BTreeMap<u64, Record>,
     // the number of each record's collection, with its revision
     places: BTreeSet<(u64, u64)>,
+    // what the records want of the digests that they name
+    wants: Wants,
 }
 
 impl Model for Records {
@@ -31,7 +35,15 @@ impl Model for Records {
 
     ghost view = { λ t. values_of t.rows.entries };
 
-    ghost invariant = { λ t. AreIndexed t.rows.entries t.places };
+    ghost invariant = { λ t. AreIndexed t.rows.entries t.places t.wants };
+}
+
+// A record's place: the number of its collection, and its revision.
+fn place_of(number: u64, revision: u64) -> (u64, u64)
+    ensures place { result ≡ (number, revision) }
+    ensures bound { result.1 < 2 ^ 64 }
+{
+    (number, revision)
 }
 
 impl Records {
@@ -42,6 +54,7 @@ impl Records {
         Records {
             rows: BTreeMap::new(alloc),
             places: BTreeSet::new(alloc),
+            wants: Wants::new(alloc),
         }
     }
 
@@ -82,21 +95,54 @@ impl Records {
         }
     }
 
+    /// Returns the current record of a collection, which is its newest.
+    pub(crate) fn current_of(&self, number: u64) -> Option<&Record>
+        requires { AreSuperseded self.now }
+        ensures { option_map (λ r. r.now) result ≡ find (is_current_of number) self.now }
+    {
+        let mut places = self.places.range((
+            Bound::Included((number, 0)),
+            Bound::Included((number, u64::MAX)),
+        ));
+        let Some(place) = places.next_back() else {
+            return None;
+        };
+        let (_, revision) = *place;
+        self.rows.get(&revision)
+    }
+
+    /// Returns the greatest number of copies that the records want of a digest, or 0 where none names it. Takes no memory.
+    pub(crate) fn wanted(&self, digest: &Digest) -> u8
+        ensures { result ≡ wanted_in digest.now (map row_of self.now) }
+    {
+        self.wants.greatest(digest)
+    }
+
     /// Adds a record whose revision is above all others. Where memory is refused, nothing changes.
     pub(crate) fn add(&mut self, row: Record) -> Result<(), NoMemory>
         requires positive { 0 < row.revision }
         requires newest { AllByRecursion (λ r. r.revision < row.revision) self.old }
         ensures { self.new ≡ (if is_ok result then self.old ++ row ∷ [] else self.old) }
     {
-        let place = (row.collection, row.revision);
+        let place = place_of(row.collection, row.revision);
         let Ok(_) = self.places.insert(place) else {
             return Err(NoMemory);
         };
-        let Ok(_) = self.rows.insert(row.revision, row) else {
+        if self
+            .wants
+            .add(row.made.named.as_slice(), row.made.want)
+            .is_err()
+        {
             self.places.remove(&place);
             return Err(NoMemory);
+        }
+        let Err(refused) = self.rows.insert(row.revision, row) else {
+            return Ok(());
         };
-        Ok(())
+        let (_, back) = refused.value;
+        self.wants.take(back.made.named.as_slice(), back.made.want);
+        self.places.remove(&place);
+        Err(NoMemory)
     }
 
     /// Removes the record with this revision, where there is one.
@@ -107,6 +153,7 @@ impl Records {
             return;
         };
         self.places.remove(&(row.collection, revision));
+        self.wants.take(row.made.named.as_slice(), row.made.want);
     }
 
     /// Gives the record with this revision, where there is one, another standing.

@@ -296,6 +296,6 @@ impl Table {
     pub fn wanted(&self, digest: &Digest) -> u8
         ensures { result ≡ wanted_in digest.now (map machine.row_of self.now.state.records) }
     {
-        changes::wanted(&self.records, digest)
+        self.records.wanted(digest)
     }
 }

@@ -1,6 +1,5 @@
-use Rattle.std.proofs.Common.{◌≡◌, ◌<◌, refl, sym, ◌∙◌, ap, true, not, filter, nat_eq, arith}
+use Rattle.std.proofs.Common.{sym, ◌∙◌, ap, not, filter, nat_eq, arith}
 use Rattle.keep_event.specs.Table.{is_due_of, is_of}
-use Rattle.keep_table.specs.Maps.{is_next}
 use Rattle.keep_table.proofs.Steps.{keeps-all, keeps-dropped, keeps-passed, keeps-end, next-of-all, fewer}
 use Rattle.keep_table.proofs.Walks.{revision, due-of}
 use Rattle.keep_table.proofs.changes.drop_due.Goals as goal

@@ -1,4 +1,4 @@
-use Rattle.std.proofs.Common.{◌≡◌, ◌<◌, ◌+◌, refl, sym, ◌∙◌, ap, true, not, filter, nat_eq, length, arith}
+use Rattle.std.proofs.Common.{refl, sym, ◌∙◌, ap, true, not, filter, nat_eq, length, arith}
 use Rattle.std.proofs.lemmas.List.Sums.{length-filter}
 use Rattle.std.proofs.lemmas.List.Filters.{length-filter_both}
 use Rattle.keep_event.specs.Table.{is_gone}

@@ -1,6 +1,6 @@
-use Rattle.std.proofs.Common.{◌≡◌, ◌<◌, refl, sym, ◌∙◌, ap, true, not, filter, nat_eq, arith}
+use Rattle.std.proofs.Common.{refl, sym, ◌∙◌, ap, not, filter, nat_eq, arith}
 use Rattle.keep_event.specs.Table.{outlasts}
-use Rattle.keep_table.specs.Maps.{is_next, any_record}
+use Rattle.keep_table.specs.Maps.{any_record}
 use Rattle.keep_table.proofs.Steps.{keeps-all, keeps-dropped, keeps-passed, keeps-end, next-of-all, fewer, filter-congr, not-not}
 use Rattle.keep_table.proofs.Walks.{revision}
 use Rattle.keep_table.proofs.changes.drop_swept.Goals as goal

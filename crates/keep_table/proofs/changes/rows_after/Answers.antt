@@ -1,4 +1,4 @@
-use Rattle.std.proofs.Common.{◌≡◌, ◌<◌, ◌≤◌, ◌++◌, ◌∷◌, [], not, is_ok, length-append, refl, sym, ◌∙◌, ap, true, false, length, arith}
+use Rattle.std.proofs.Common.{◌≡◌, ◌++◌, ◌∷◌, [], not, is_ok, length-append, sym, ◌∙◌, ap, length, arith}
 use Rattle.std.proofs.lemmas.Bool.{lt-leb, le-leb, cond-true}
 use Rattle.std.proofs.lemmas.List.{take_all}
 use Rattle.keep_event.specs.Table.{rows_above, row_of}

@@ -1,4 +1,4 @@
-use Rattle.std.proofs.Common.{◌≡◌, ◌+◌, ◌<◌, refl, sym, ◌∙◌, ap, true, length, filter, arith}
+use Rattle.std.proofs.Common.{◌+◌, sym, ◌∙◌, ap, length, arith}
 use Rattle.std.proofs.lemmas.List.Sums.{length-filter, count_by-le-length}
 use Rattle.keep_event.specs.Table.{is_held, is_of}
 use Rattle.keep_table.specs.Maps.{is_next}

@@ -1,7 +1,5 @@
-use Rattle.std.proofs.Common.{◌≡◌, ◌++◌, ◌∷◌, [], sym, ◌∙◌, ap}
 use Rattle.std.specs.Map.{values_of}
 use Rattle.keep_event.specs.declared.table.Collection.{Collection}
-use Rattle.keep_table.specs.Maps.{keyed}
 use Rattle.keep_table.proofs.Keyed.{added, keyed-again, values-are, rises-with}
 use Rattle.keep_table.proofs.collections.Collections.add.Goals as goal
 

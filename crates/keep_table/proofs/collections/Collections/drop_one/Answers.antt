@@ -1,4 +1,3 @@
-use Rattle.std.proofs.Common.{◌≡◌}
 use Rattle.std.specs.Map.{values_of}
 use Rattle.keep_event.specs.declared.table.Collection.{Collection}
 use Rattle.keep_table.proofs.Keyed.{dropped, keyed-again, values-are, rises-without}

@@ -1,4 +1,3 @@
-use Rattle.std.proofs.Common.{◌≡◌}
 use Rattle.keep_event.specs.declared.table.Collection.{Collection}
 use Rattle.keep_table.proofs.Keyed.{found}
 use Rattle.keep_table.proofs.collections.Collections.get.Goals as goal

@@ -1,4 +1,4 @@
-use Rattle.std.proofs.Common.{◌≡◌, sym, ◌∙◌}
+use Rattle.std.proofs.Common.{sym, ◌∙◌}
 use Rattle.std.proofs.lemmas.Map.Entries.{length-values_of}
 use Rattle.keep_table.proofs.collections.Collections.len.Goals as goal
 

@@ -1,4 +1,4 @@
-use Rattle.std.proofs.Common.{◌≡◌, sym, ◌∙◌, ap}
+use Rattle.std.proofs.Common.{sym, ◌∙◌, ap}
 use Rattle.keep_event.specs.declared.table.Collection.{Collection}
 use Rattle.keep_table.proofs.Keyed.{first-of-rows, first_value}
 use Rattle.keep_table.proofs.collections.Collections.next_above.Goals as goal

@@ -1,10 +1,7 @@
-use Rattle.std.proofs.Common.{◌≡◌, ◌∙◌, sym, ap, refl, Some, None, map, nat_eq, cond, nat_cmp}
-use Rattle.std.specs.Map.{values_of, lookup}
-use Rattle.std.specs.BTreeMap.{is_at}
+use Rattle.std.proofs.Common.{◌≡◌, ◌∙◌, sym, refl, Some, None}
+use Rattle.std.specs.Map.{values_of}
 use Rattle.std.specs.Option.{option_copied_mut}
-use Rattle.keep_event.specs.Table.{with_times}
 use Rattle.keep_event.specs.declared.table.Collection.{Collection}
-use Rattle.keep_table.specs.Maps.{keyed}
 use Rattle.keep_table.proofs.Keyed.{rewritten, keyed-again, values-are, keys-changed, change-absent, found}
 use Rattle.keep_table.proofs.collections.Collections.set_times.Goals as goal
 use Rattle.keep_table.proofs.collections.Collections.set_times.Goals.{in-Some, in_default}

@@ -1,13 +1,20 @@
-use Rattle.std.proofs.Common.{◌≡◌, sym, ◌∙◌, ap, refl}
+use Rattle.std.proofs.Common.{◌^◌, sym, ◌∙◌, refl, arith}
 use Rattle.std.specs.Map.{values_of}
 use Rattle.keep_event.specs.declared.table.Record.{Record}
-use Rattle.keep_table.specs.Maps.{keyed}
 use Rattle.keep_table.proofs.Keyed.{dropped, keyed-again, values-are, rises-without, found}
-use Rattle.keep_table.proofs.Places.{place-dropped}
+use Rattle.keep_table.proofs.Places.{place-dropped, below-filter}
+use Rattle.keep_table.proofs.Mentions.{mentioned-without, taken}
 use Rattle.keep_table.proofs.records.Records.drop_one.Goals as goal
 
 pub returns-in_default : goal.returns-in_default
 returns-in_default c = rw (← c.self.view_is) (values-are (λ (r : Record). r.revision) _ _ (dropped (λ (r : Record). r.revision) c.args.revision c.self.inside.rows.entries c.remove.new.self.entries c.self.invariant.by_revision c.self.invariant.rising c.remove.ensures.entries))
+
+pub take-requires : goal.take-requires
+take-requires c = λ h n.
+    let there = sym (found (λ (r : Record). r.revision) c.args.revision c.self.inside.rows.entries c.self.invariant.by_revision) ∙ sym c.remove.ensures.value ∙ c.in-Some.is in
+    let less = mentioned-without h n c.args.revision 0 (values_of c.self.inside.rows.entries) c.in-Some.row c.self.invariant.rising there in
+    let before = c.self.invariant.of_wants h n in
+    rw c.as_slice.ensures (omega arith)
 
 pub invariant_of-self-2 : goal.invariant_of-self-2
 invariant_of-self-2 c =
@@ -17,6 +24,8 @@ invariant_of-self-2 c =
     record {
       by_revision = keyed-again (λ (r : Record). r.revision) _ _ e;
       rising = rw vs (rises-without (λ (r : Record). r.revision) 0 _ (values_of c.self.inside.rows.entries) c.self.invariant.rising);
+      drawn = rw vs (below-filter (2 ^ 64) _ (values_of c.self.inside.rows.entries) c.self.invariant.drawn);
+      of_wants = λ h n. rw vs (taken _ _ _ _ _ (mentioned-without h n c.args.revision 0 (values_of c.self.inside.rows.entries) c.in-Some.row c.self.invariant.rising there) (c.self.invariant.of_wants h n) (rw c.as_slice.ensures at (c.take.ensures h n)));
       of_each = λ n v. rw vs ((c.remove-2.ensures.updates.0 (n, v)) ∙ place-dropped n v c.args.revision (values_of c.self.inside.rows.entries) c.in-Some.row _ _ c.self.invariant.rising there refl (c.self.invariant.of_each n v));
     }
 

@@ -1,12 +1,11 @@
-use Rattle.std.proofs.Common.{◌≡◌, ◌∙◌, sym, ap, refl, Some, None, map, nat_eq, cond, nat_cmp}
-use Rattle.std.specs.Map.{values_of, lookup}
-use Rattle.std.specs.BTreeMap.{is_at}
+use Rattle.std.proofs.Common.{◌≡◌, ◌∙◌, sym, refl, Some, None, ◌^◌}
+use Rattle.std.specs.Map.{values_of}
 use Rattle.std.specs.Option.{option_copied_mut}
-use Rattle.keep_event.specs.Table.{is_of}
 use Rattle.keep_event.specs.declared.table.Record.{Record}
-use Rattle.keep_table.specs.Maps.{keyed, standing_as}
+use Rattle.keep_table.specs.Maps.{standing_as}
 use Rattle.keep_table.proofs.Keyed.{rewritten, keyed-again, values-are, keys-changed, change-absent, found}
-use Rattle.keep_table.proofs.Places.{place-marked}
+use Rattle.keep_table.proofs.Places.{place-marked, below-marked}
+use Rattle.keep_table.proofs.Mentions.{mentioned-marked}
 use Rattle.keep_table.proofs.records.Records.mark.Goals as goal
 use Rattle.keep_table.proofs.records.Records.mark.Goals.{in-Some, in_default}
 
@@ -20,7 +19,9 @@ invariant_of-self c =
           rw w.self-inside-is (record {
             by_revision = keyed-again (λ (r : Record). r.revision) _ _ e;
             rising = rw (vs, keys-changed (λ (r : Record). r.revision) c.args.revision (standing_as c.args.standing) (values_of c.self.inside.rows.entries) (λ x. refl)) c.self.invariant.rising;
+            drawn = rw vs (below-marked (2 ^ 64) c.args.revision c.args.standing (values_of c.self.inside.rows.entries) c.self.invariant.drawn);
             of_each = λ n v. rw (vs, place-marked n v c.args.revision c.args.standing (values_of c.self.inside.rows.entries)) (c.self.invariant.of_each n v);
+            of_wants = λ h n. rw (vs, mentioned-marked h n c.args.revision c.args.standing (values_of c.self.inside.rows.entries)) (c.self.invariant.of_wants h n);
           }))
       | in_default w ↦ rw (w.self-inside-is, c.get_mut.follows.holds-at-none) c.self.invariant
     ]

@@ -1,9 +1,6 @@
-use Rattle.std.proofs.Common.{◌≡◌, length, arith, ◌∷◌, [], sym, ◌∙◌, ap, refl, Some, None, Option}
-use Rattle.std.specs.Map.{values_of}
+use Rattle.std.proofs.Common.{arith, sym, ◌∙◌, ap}
 use Rattle.std.proofs.lemmas.Map.Entries.{length-values_of}
-use Rattle.std.specs.List.{find}
 use Rattle.keep_event.specs.declared.table.Record.{Record}
-use Rattle.keep_table.specs.Maps.{keyed, is_next, any_record}
 use Rattle.keep_table.proofs.Keyed.{first-of-rows, first_value}
 use Rattle.keep_table.proofs.records.Records.next_above.Goals as goal
 

@@ -1,4 +1,4 @@
-use Rattle.std.proofs.Common.{◌≡◌, ◌+◌, ◌++◌, ◌∷◌, [], refl, arith, ◌∙◌, ap, sym, not, filter, is_ok, nat_eq}
+use Rattle.std.proofs.Common.{◌≡◌, ◌+◌, ◌++◌, ◌∷◌, [], refl, arith, ◌∙◌, ap, not, filter, is_ok, nat_eq}
 use Rattle.std.proofs.lemmas.Bool.{cond-true, cond-false}
 use Rattle.keep_event.specs.Table as machine
 use Rattle.keep_table.proofs.Orderly.{orderly-created, collections-created, collection-undone}
@@ -23,6 +23,6 @@ invariant_of-self-2 c =
     let collections : c.add.new.self ≡ c.self.inside.collections ++ machine.new_collection (c.self.inside.numbers + 1) c.args.owner ∷ [] = c.add.ensures ∙ cond-true (is_ok c.add.result) _ _ (c.is_err.ensures.negation ∙ ap not c.if-is_err.false) ∙ ap (λ x. c.self.inside.collections ++ x ∷ []) c.new_collection.ensures in
     let records : c.add-2.new.self ≡ c.self.inside.records ++ machine.new_record (c.self.inside.numbers + 1) 1 (c.self.inside.revisions + 1) c.args.made ∷ [] = c.add-2.ensures ∙ cond-true (is_ok c.add-2.result) _ _ (c.is_err-2.ensures.negation ∙ ap not c.if-is_err-2.false) ∙ ap (λ x. c.self.inside.records ++ x ∷ []) c.new_record-record.ensures in
     rw (collections, records) (
-      orderly-created c.self.inside.numbers c.self.inside.revisions c.self.inside.records _ refl (omega arith) refl c.self.invariant.0,
+      orderly-created c.self.inside.numbers c.self.inside.revisions c.self.inside.records _ refl refl (omega arith) refl c.self.invariant.0,
       collections-created c.self.inside.numbers c.self.inside.collections _ refl c.self.invariant.1,
     )

@@ -1,11 +1,10 @@
 use Rattle.std.proofs.Common.{refl, false, arith, count_by, ◌≡◌, ◌≤◌, ◌<◌, ◌+◌, ◌++◌, ◌∷◌, [], ap, sym, ◌∙◌, not, is_ok, map, filter}
-use Rattle.std.specs.Prelude.{Ok}
 use Rattle.std.proofs.lemmas.Bool.{cond-true}
 use Rattle.keep_event.specs.Table as machine
 use Rattle.keep_event.specs.Table.{is_current, is_current_of, is_held}
 use Rattle.keep_table.proofs.Updates.{kept-not-current}
 use Rattle.keep_table.proofs.Versions.{version-le, room-revisions}
-use Rattle.keep_table.proofs.Orderly.{orderly-updated, updatable-drawn, held-updated, records-below}
+use Rattle.keep_table.proofs.Orderly.{orderly-updated, update-keeps-current, updatable-drawn, held-updated, records-below}
 use Rattle.keep_table.proofs.table.Table.update.Goals as goal
 
 pub overflow_add-version : goal.overflow_add-version
@@ -28,7 +27,7 @@ invariant_of-self-2 c =
     let standing : is_current c.kept_until-standing.result ≡ false = rw c.kept_until-standing.ensures (kept-not-current c.self.inside.rules c.args.reading c.args.preserve) in
     let renewed = c.renew.ensures ∙ cond-true (is_ok c.renew.result) _ _ (c.is_err.ensures.negation ∙ ap not c.if-is_err.false) in
     rw (renewed, c.new_record-row.ensures) (
-      orderly-updated c.self.inside.numbers c.self.inside.revisions c.args.collection _ _ c.self.inside.records _ standing refl there (omega arith) refl c.self.invariant.0,
+      orderly-updated c.self.inside.numbers c.self.inside.revisions _ (λ r. not (machine.is_due_of c.args.reading c.args.collection r)) c.self.inside.records _ standing refl (update-keeps-current c.args.reading c.args.collection) there (omega arith) refl c.self.invariant.0,
       c.self.invariant.1,
     )
 

@@ -1,7 +1,7 @@
 use Rattle.std.proofs.Common.{◌≡◌, length, filter}
 use Rattle.keep_event.specs.Table.{is_readable, is_of}
 use Rattle.keep_table.specs.Maps.{is_next}
-use Rattle.keep_table.proofs.changes.version_of.Given as goal
+use Rattle.keep_table.proofs.changes.readable_of.Given as goal
 
 -- those above the last one decide
 abbrev pub invariant-loop-row : goal.invariant-loop-row
