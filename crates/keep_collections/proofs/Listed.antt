@@ -1,8 +1,9 @@
 -- The answer of the table's line for a query is one that is listed for it: `line`, `listed`.
-use Rattle.std.proofs.Common.{◌≡◌, ◌<◌, ◌+◌, ℕ, zero, suc, Bool, true, false, ◌&&◌, if◌then◌else◌, List, [], ◌∷◌, length, take, nat_le, Option, None, Some, option_map, IfSome, IfOk, IsTrue, unwrap_or, Result, Ok, Err, ok_or, refl, sym, ap, ◌∙◌, subst, arith}
+use Rattle.std.proofs.Common.{◌≡◌, ◌<◌, ◌+◌, ℕ, zero, suc, Bool, true, false, ◌&&◌, if◌then◌else◌, List, [], ◌∷◌, length, take, nat_le, ◌≤◌, Option, None, Some, option_map, IfSome, IfOk, IsTrue, unwrap_or, Result, Ok, Err, ok_or, refl, sym, ap, ◌∙◌, subst, arith}
 use Rattle.std.specs.Option.{option_or}
 use Rattle.std.specs.Str.{bytes_eq}
 use Rattle.std.proofs.lemmas.Bool.Decides.{nat_tests}
+use Rattle.std.proofs.lemmas.List.{length-take}
 use Rattle.keep_spec.specs.Config.{Configuration, token_of}
 use Rattle.keep_spec.specs.Portable.{portable_text}
 use Rattle.keep_spec.specs.Refusals.{bad}
@@ -302,9 +303,16 @@ empty-last limit [] lt e = grind (arith, nat_tests)
 empty-last zero (x ∷ xs) lt e = absurd (omega arith)
 empty-last (suc k) (x ∷ xs) lt e = cc e
 
-scan : (round after limit : ℕ) (s : State) → 0 < limit → AreRowsAbove after (machine.scan after limit s).answer → IsRowsAnswer after (machine.scan after limit s).answer
+taken : (limit : ℕ) (xs : List ScanRow) → length (take limit xs) ≤ limit
+taken limit xs = omega (arith, length-take limit xs)
+
+scan : (round after limit : ℕ) (s : State) → 0 < limit → AreRowsAbove after (machine.scan after limit s).answer → IsRowsAnswer after limit (machine.scan after limit s).answer
 unfolding machine.scan
-scan round after limit s lt h = (rises after _ h, empty-last limit (machine.rows_above after s.records) lt)
+scan round after limit s lt h = record {
+  rise = rises after _ h;
+  none_left = empty-last limit (machine.rows_above after s.records) lt;
+  within = taken limit (machine.rows_above after s.records);
+}
 
 round : (reading : ℕ) (s : State) → IsTrue (is_round (machine.begin_round reading s).answer)
 unfolding machine.begin_round

@@ -1,5 +1,5 @@
 -- Which answers the machines list for which query.
-use Rattle.std.specs.Prelude.{◌≡◌, ◌<◌, ⊤, ℕ, Bool, true, false, ◌||◌, ◌&&◌, List, [], ◌∷◌, map, IsTrue}
+use Rattle.std.specs.Prelude.{◌≡◌, ◌<◌, ◌≤◌, ⊤, ℕ, Bool, true, false, ◌||◌, ◌&&◌, List, [], ◌∷◌, length, map, IsTrue}
 use Rattle.keep_event.specs.Device.{may_fault}
 use Rattle.keep_event.specs.declared.device.DeviceQuery.{DeviceQuery}
 use Rattle.keep_event.specs.declared.device.DeviceQuery.TheVariants as D
@@ -160,13 +160,15 @@ abbrev pub RisesAbove : ℕ → List ℕ → Type 0
 RisesAbove low [] = ⊤
 RisesAbove low (n ∷ ns) = (low < n) × RisesAbove n ns
 
--- rows rise by revision from above `after` on, and are none only where no further record is left
-abbrev pub AreRows : ℕ → List ScanRow → Bool → Type 0
-AreRows after rows last = RisesAbove after (map (λ r. r.revision) rows) × (rows ≡ [] → last ≡ true)
+-- at most `limit` rows, which rise by revision from above `after` on, and are none only where no further record is left
+pub record AreRows (after limit : ℕ) (rows : List ScanRow) (last : Bool) : Type 0 where
+  pub rise : RisesAbove after (map (λ r. r.revision) rows)
+  pub none_left : rows ≡ [] → last ≡ true
+  pub within : length rows ≤ limit
 
-abbrev pub IsRowsAnswer : ℕ → TableAnswer → Type 0
-IsRowsAnswer after (R.Rows rows last) = AreRows after rows last
-IsRowsAnswer after other = ⊥
+abbrev pub IsRowsAnswer : ℕ → ℕ → TableAnswer → Type 0
+IsRowsAnswer after limit (R.Rows rows last) = AreRows after limit rows last
+IsRowsAnswer after limit other = ⊥
 
 abbrev pub IsTableAnswer : TableQuery → TableAnswer → Type 0
 IsTableAnswer T.BeginRound a = IsTrue (is_round a)
@@ -176,7 +178,7 @@ IsTableAnswer (T.Read token collection version) a = IsTrue (is_row_answer a)
 IsTableAnswer (T.SetTrash token collection trash_at delete_at) a = IsTrue (is_trash_set a)
 IsTableAnswer (T.Restore token collection) a = IsTrue (is_restored a)
 IsTableAnswer T.Sweep a = IsTrue (is_swept_answer a)
-IsTableAnswer (T.Scan round after limit) a = IsRowsAnswer after a
+IsTableAnswer (T.Scan round after limit) a = IsRowsAnswer after limit a
 
 -- the answer is one of its query
 abbrev pub IsAnswerOf : Query → Answer → Type 0
