@@ -1,5 +1,5 @@
 // A port some of whose calls fail.
-ghost use Rattle.std.specs.Prelude.{◌≡◌, ◌≤◌, ◌+◌, Some, if◌then◌else◌};
+ghost use Rattle.std.specs.Prelude.{◌≡◌, ◌≤◌, ◌+◌, Some, IfSome, if◌then◌else◌};
 ghost use Rattle.keep_spec.specs.Causes.{counted, is_failing};
 ghost use Rattle.keep_event.specs.Port.{new_plan};
 
@@ -34,11 +34,12 @@ impl<P: Port> FailingPort<P> {
         }
     }
 
-    /// Returns the port below.
+    /// Returns the port below. Its count of faults is that of its own calls, which the plan told beside the failures that were planned.
     pub fn into_port(self) -> P
         ensures told { P.told result ≡ ⟦<FailingPort<P> as Port>⟧.told self }
         ensures world { P.world result ≡ ⟦<FailingPort<P> as Port>⟧.world self }
         ensures stamp { P.stamp result ≡ ⟦<FailingPort<P> as Port>⟧.stamp self }
+        ensures faults { IfSome (⟦<FailingPort<P> as Port>⟧.fault_plan self) (λ p. P.faults result ≡ p.below) }
         ensures spent { P.spent result ≡ ⟦<FailingPort<P> as Port>⟧.spent self }
         ensures store_faults { P.store_faults result ≡ ⟦<FailingPort<P> as Port>⟧.store_faults self }
         ensures devices { P.devices result ≡ ⟦<FailingPort<P> as Port>⟧.devices self }
