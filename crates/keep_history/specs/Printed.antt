@@ -122,7 +122,14 @@ outcome_words (O.Row version want trash_at text) = codes "Row" ++ number_field v
 outcome_words (O.TrashSet trash_at delete_at) = codes "TrashSet" ++ number_field trash_at ++ number_field delete_at
 outcome_words O.Restored = codes "Restored"
 outcome_words (O.Swept versions collections) = codes "Swept" ++ number_field versions ++ number_field collections
-outcome_words (O.Refused answer) = table_words answer
+outcome_words O.NoSuch = codes "NoSuch"
+outcome_words O.NotOwner = codes "NotOwner"
+outcome_words (O.InTrash at) = codes "InTrash" ++ number_field at
+outcome_words (O.BadManifest at kind) = codes "BadManifest" ++ number_field at ++ 32 ∷ kind_word kind
+outcome_words (O.Unsigned index why) = codes "Unsigned" ++ number_field index ++ why_words why
+outcome_words (O.WrongHash computed) = codes "WrongHash" ++ portable_field computed
+outcome_words O.BadWant = codes "BadWant"
+outcome_words (O.TooManyVersions held) = codes "TooManyVersions" ++ number_field held
 
 -- the line of an event of a named task on a device
 unfoldable pub event_line : List ℕ → ℕ → DeviceAnswer → List ℕ

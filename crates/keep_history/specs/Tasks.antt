@@ -1,5 +1,5 @@
 -- Tasks: how an opening ends at once or what task it makes, and what a task asks next or how it ends, a function of the task and of the answers so far. The order of the tests is this project's rule.
-use Rattle.std.specs.Prelude.{ℕ, ◌+◌, ◌==◌, ◌||◌, nat_lt, not, filter, List, [], ◌∷◌, ◌++◌, length, Bool, true, false, Option, None, Some, Result, Ok, Err, if◌then◌else◌, codes, option_map, unwrap_or, slice_get}
+use Rattle.std.specs.Prelude.{ℕ, ⊤, ◌+◌, ◌<◌, ◌==◌, ◌||◌, nat_lt, not, filter, List, [], ◌∷◌, ◌++◌, length, Bool, true, false, Option, None, Some, Result, Ok, Err, if◌then◌else◌, codes, option_map, unwrap_or, slice_get}
 use Rattle.std.specs.List.{list_any}
 use Rattle.std.specs.Option.{option_or}
 use Rattle.std.specs.Str.{bytes_eq}
@@ -58,6 +58,15 @@ abbrev pub empty_locator : List ℕ
 empty_locator = codes "d41d8cd98f00b204e9800998ecf8427e+0"
 
 -- AT OPENING
+-- the server or the device that an opening names is one of the configuration
+abbrev pub NamesWithin : Configuration → Opening → Type 0
+NamesWithin c (Open.Put token server bytes hash) = server < length c.servers
+NamesWithin c (Open.Get token server locator) = server < length c.servers
+NamesWithin c (Open.Touch token server locator) = server < length c.servers
+NamesWithin c (Open.Untrash token server hash) = server < length c.servers
+NamesWithin c (Open.Restart device) = device < length c.devices
+NamesWithin c other = ⊤
+
 abbrev pub has_other_digest : List ℕ → Option (List ℕ) → Bool
 has_other_digest bytes None = false
 has_other_digest bytes (Some hash) = not (bytes_eq (md5 bytes) hash)
@@ -121,6 +130,12 @@ with_token None make = Err O.UnknownToken
 with_token (Some id) make = make id
 
 -- COLLECTIONS
+-- whether a task asks the table so: rounds ask the other queries
+abbrev pub is_task_query : TableQuery → Bool
+is_task_query TQ.BeginRound = false
+is_task_query (TQ.Scan round after limit) = false
+is_task_query query = true
+
 abbrev pub asks_table : TableQuery → Result Task Outcome
 asks_table q = Ok (T.Table q)
 
@@ -272,12 +287,25 @@ abbrev pub token_of_query : TableQuery → List ℕ
 token_of_query (TQ.Read token collection version) = token
 token_of_query _ = []
 
--- what was set, brought back or swept goes into the end as it was answered; any other answer refused what was asked
+-- what the table refused; no other answer is listed for the query of a task beside those that the ends before it name
+abbrev pub refused : TableAnswer → Outcome
+refused TA.UnknownToken = O.UnknownToken
+refused TA.NoSuch = O.NoSuch
+refused TA.NotOwner = O.NotOwner
+refused (TA.InTrash at) = O.InTrash at
+refused (TA.BadManifest at kind) = O.BadManifest at kind
+refused (TA.Unsigned index why) = O.Unsigned index why
+refused (TA.WrongHash computed) = O.WrongHash computed
+refused TA.BadWant = O.BadWant
+refused (TA.TooManyVersions held) = O.TooManyVersions held
+refused answer = O.NotFound
+
+-- what was set, brought back or swept goes into the end as it was answered
 abbrev pub end_as_answered : TableAnswer → Outcome
 end_as_answered (TA.TrashSet trash_at delete_at) = O.TrashSet trash_at delete_at
 end_as_answered TA.Restored = O.Restored
 end_as_answered (TA.Swept versions collections) = O.Swept versions collections
-end_as_answered answer = O.Refused answer
+end_as_answered answer = refused answer
 
 -- how the table's answer ends a task
 unfoldable pub table_end : Configuration → TableQuery → TableAnswer → Outcome

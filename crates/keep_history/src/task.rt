@@ -1,6 +1,6 @@
 // Tasks: what opens them, what they go on with, how they end, and the script lines that name them.
-use keep_event::{Block, SaveRequest, TableAnswer, TableQuery};
-use keep_spec::{Bytes, Digest, Items, Portable, TokenId};
+use keep_event::{Block, SaveRequest, TableQuery};
+use keep_spec::{Bytes, Digest, Items, Kind, Portable, TokenId, Unverified};
 
 /// What a task is opened with. Servers and devices are named by their numbers in the configuration, from 0; a collection by the text of its UUID.
 /// The rules of each opening and of its end are this project's own.
@@ -128,7 +128,7 @@ pub enum Outcome {
     },
     /// The device was restarted.
     Restarted,
-    /// The configuration doesn't have the token. It comes before any other refusal, and nothing was asked.
+    /// The configuration doesn't have the token. It comes before any other refusal: before anything was asked, or as the table's refusal.
     UnknownToken,
     /// A put of more than 67,108,864 bytes. Nothing was asked.
     TooLong,
@@ -190,9 +190,33 @@ pub enum Outcome {
         versions: u64,
         collections: u64,
     },
-    /// The table refused what was asked, and is as before.
-    Refused {
-        answer: TableAnswer,
+    /// There is no such collection, or none of its records is the one to read. This and the ends that follow are refusals of the table, which is as before.
+    NoSuch,
+    /// The token is neither the owner's nor the system's.
+    NotOwner,
+    /// The collection has been in the trash since this time.
+    InTrash {
+        at: u64,
+    },
+    /// The text isn't a manifest: its first refusal, and where it is.
+    BadManifest {
+        at: u64,
+        kind: Kind,
+    },
+    /// The first locator that isn't validly signed, by its number in the text, from 0 and empty blocks included.
+    Unsigned {
+        index: u64,
+        why: Unverified,
+    },
+    /// The claimed portable data hash isn't the text's, which is this.
+    WrongHash {
+        computed: Portable,
+    },
+    /// The wanted number of copies isn't within 1 to 255.
+    BadWant,
+    /// The collection holds this many versions that aren't due, as many as the configuration allows or more.
+    TooManyVersions {
+        held: u64,
     },
 }
 

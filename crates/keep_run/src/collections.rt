@@ -43,7 +43,7 @@ fn ask_table(
 {
     let answer = answer(alloc, table, config, reading, query)?;
     push_table_event_line(out, name, &answer)?;
-    table_outcome(alloc, config, query, answer)
+    table_outcome(alloc, config, query, &answer)
 }
 
 /// Asks the table or the device until the task ends, and appends a line for each answer. After `NoMemory` the first of the queries were asked.

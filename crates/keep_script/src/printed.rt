@@ -4,7 +4,9 @@ ghost use Rattle.std.specs.Fmt.{decimal};
 ghost use Rattle.keep_history.specs.Printed.{answer_words, bytes_field, digest_field, end_line, event_line, number_field, outcome_words, portable_field};
 
 use crate::hexadecimal::push_digits;
-use crate::tables::{push_hash, push_numbers, push_optional, push_quoted, push_table_answer};
+use crate::tables::{
+    push_bad_manifest, push_hash, push_numbers, push_optional, push_quoted, push_unsigned,
+};
 use itoa::Buffer;
 use keep_event::DeviceAnswer;
 use keep_history::Outcome;
@@ -124,7 +126,14 @@ fn push_outcome(out: &mut Vec<u8>, outcome: &Outcome) -> Result<(), NoMemory>
             versions,
             collections,
         } => push_numbers(out, b"Swept", *versions, *collections),
-        Outcome::Refused { answer } => push_table_answer(out, answer),
+        Outcome::NoSuch => push_word(out, b"NoSuch"),
+        Outcome::NotOwner => push_word(out, b"NotOwner"),
+        Outcome::InTrash { at } => push_number(out, b"InTrash", *at),
+        Outcome::BadManifest { at, kind } => push_bad_manifest(out, *at, *kind),
+        Outcome::Unsigned { index, why } => push_unsigned(out, *index, *why),
+        Outcome::WrongHash { computed } => push_hash(out, b"WrongHash", computed),
+        Outcome::BadWant => push_word(out, b"BadWant"),
+        Outcome::TooManyVersions { held } => push_number(out, b"TooManyVersions", *held),
     }
 }
 

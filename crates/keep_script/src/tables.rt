@@ -25,7 +25,7 @@ pub fn push_table_event_line(
     Ok(())
 }
 
-pub(crate) fn push_table_answer(out: &mut Vec<u8>, answer: &TableAnswer) -> Result<(), NoMemory>
+fn push_table_answer(out: &mut Vec<u8>, answer: &TableAnswer) -> Result<(), NoMemory>
     ensures { OnOk result (out.new.items ≡ out.old.items ++ table_words answer.now) }
 {
     match answer {
@@ -130,7 +130,7 @@ fn push_rows(out: &mut Vec<u8>, count: u64, last: bool) -> Result<(), NoMemory>
     }
 }
 
-fn push_bad_manifest(out: &mut Vec<u8>, at: u64, kind: Kind) -> Result<(), NoMemory>
+pub(crate) fn push_bad_manifest(out: &mut Vec<u8>, at: u64, kind: Kind) -> Result<(), NoMemory>
     ensures { OnOk result (out.new.items ≡ out.old.items ++ (codes "BadManifest" ++ number_field at ++ 32 ∷ kind_word kind)) }
 {
     push_number(out, b"BadManifest", at)?;
@@ -151,7 +151,7 @@ fn kind_word(kind: Kind) -> &'static [u8]
     }
 }
 
-fn push_unsigned(out: &mut Vec<u8>, index: u64, why: Unverified) -> Result<(), NoMemory>
+pub(crate) fn push_unsigned(out: &mut Vec<u8>, index: u64, why: Unverified) -> Result<(), NoMemory>
     ensures { OnOk result (out.new.items ≡ out.old.items ++ (codes "Unsigned" ++ number_field index ++ why_words why)) }
 {
     push_number(out, b"Unsigned", index)?;

@@ -1,7 +1,7 @@
 -- A step of a task: what it asks of a port, and how it ends. These stand in public clauses.
 use Rattle.std.specs.Prelude.{◌≡◌, ℕ, List, [], length, Option, None, Some, IfOk, IfSome, Bool, true, false, ◌⊎◌, Result, Ok, Err}
 use Rattle.keep_event.specs.Answers.{IsAnswerOf}
-use Rattle.keep_event.specs.Port.{told_after, IsWorldAfter, Stamp, IsStamped, HasFailed, HasSpent, HasStoreFault, NoneFalls}
+use Rattle.keep_event.specs.Port.{told_after, IsWorldAfter, Stamp, IsStamped, HasFailed, HasSpent, HasStoreFault, NoneFalls, FaultPlan, FollowsPlan}
 use Rattle.keep_event.specs.World.{World}
 use Rattle.keep_event.specs.declared.event.Event.{Event}
 use Rattle.keep_event.specs.declared.event.Query.{Query}
@@ -20,7 +20,7 @@ use Rattle.keep_tasks.specs.declared.steps.Step.{Step}
 abbrev pub answered : Reply → Answered
 answered reply = record { tick = reply.tick; answer = reply.answer }
 
--- what a port tells and counts
+-- what a port tells and counts, and which of its calls are to fail
 pub record PortView : Type 0 where
   pub told : Option (List Event)
   pub world : Option World
@@ -29,9 +29,10 @@ pub record PortView : Type 0 where
   pub spent : ℕ
   pub store_faults : ℕ → ℕ
   pub devices : ℕ
+  pub fault_plan : Option FaultPlan
 
-abbrev pub view : {P : Type 0} → (P → Option (List Event)) → (P → Option World) → (P → Option Stamp) → (P → ℕ) → (P → ℕ) → (P → ℕ → ℕ) → (P → ℕ) → P → PortView
-view told world stamp faults spent store_faults devices p = record {
+abbrev pub view : {P : Type 0} → (P → Option (List Event)) → (P → Option World) → (P → Option Stamp) → (P → ℕ) → (P → ℕ) → (P → ℕ → ℕ) → (P → ℕ) → (P → Option FaultPlan) → P → PortView
+view told world stamp faults spent store_faults devices fault_plan p = record {
   told = told p;
   world = world p;
   stamp = stamp p;
@@ -39,6 +40,7 @@ view told world stamp faults spent store_faults devices p = record {
   spent = spent p;
   store_faults = store_faults p;
   devices = devices p;
+  fault_plan = fault_plan p;
 }
 
 -- the port was asked this one query
@@ -51,6 +53,7 @@ pub record IsAsked (actor : ℕ) (query : Query) (old new : PortView) (r : Resul
   pub spent : HasSpent old.spent new.spent r
   pub store_failed : HasStoreFault old.store_faults new.store_faults query r
   pub store_faults_stay : NoneFalls old.store_faults new.store_faults
+  pub planned : FollowsPlan old.fault_plan new.fault_plan r
   pub devices_stay : new.devices ≡ old.devices
 
 -- a step returns the reply; or the port's error; or where the end of a reply wants memory, the want of it

@@ -1,21 +1,14 @@
 // The signed locators of blocks that were put or touched.
 ghost use Rattle.std.specs.Prelude.{◌≡◌, IfOk};
-ghost use Rattle.keep_history.specs.Tasks.{expiry_of, signed_locator, touched_locator};
+ghost use Rattle.keep_history.specs.Tasks.{signed_locator, touched_locator};
 ghost use Rattle.keep_event.specs.Block.{block_of};
 
+use crate::unsigned::expiry_at;
 use keep_config::Config;
 use keep_event::Block;
 use keep_sign::push_permission_hint;
-use keep_spec::{Bytes, Digest, NANOS_PER_SECOND, NoMemory};
+use keep_spec::{Bytes, Digest, NoMemory};
 use std::alloc::Global;
-
-// When a signature by a replica's time (nanoseconds since 1970) expires, in seconds since 1970.
-fn expiry_of(config: &Config, mtime: u64) -> u32
-    ensures { result ≡ expiry_of config.now mtime }
-{
-    let expiry = mtime / NANOS_PER_SECOND + u64::from(config.ttl);
-    expiry.min(u64::from(u32::MAX)) as u32
-}
 
 /// The locator of a block, signed for a token: its digest, its size, and a permission that expires `ttl` seconds after the second of `mtime`, the time of its replica in nanoseconds since 1970. The only error is NoMemory. The expiry is counted so by this project's own rule.
 #[tactic(auto, unfolding(keep_history::specs::Tasks::signed_locator))]
@@ -33,7 +26,7 @@ pub fn signed_locator(
     out.extend_from_slice(&digest.write())?;
     out.extend_from_slice(b"+")?;
     out.extend_from_slice(block.bytes().len().to_string(alloc)?.as_bytes())?;
-    let expiry = expiry_of(config, mtime);
+    let expiry = expiry_at(config.ttl, mtime);
     let secret = config.secret.as_slice();
     push_permission_hint(&mut out, &digest, token, expiry, config.ttl, secret)?;
     Ok(Bytes::of(out))
@@ -52,7 +45,7 @@ pub fn touched_locator(
     ensures { IfOk result (λ b. b ≡ touched_locator config.now token.now digest.now stripped.now mtime) }
 {
     let mut out = Vec::from_slice(alloc, stripped.as_slice())?;
-    let expiry = expiry_of(config, mtime);
+    let expiry = expiry_at(config.ttl, mtime);
     let secret = config.secret.as_slice();
     push_permission_hint(
         &mut out,

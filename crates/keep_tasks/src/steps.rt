@@ -1,6 +1,7 @@
 // What tasks have in common: a step, which is one query to a port and what its answer makes of the task.
 ghost use Rattle.std.specs.Prelude.{◌≡◌, ℕ, ◌∷◌, ◌++◌, [], List, Bool, IfOk, OnErr, IsOk, false, true, is_some, Err};
 ghost use Rattle.keep_spec.specs.Causes.{Rose};
+ghost use Rattle.keep_event.specs.Answers.{IsAnswerOf};
 ghost use Rattle.keep_event.specs.Port.{MayAsk};
 ghost use Rattle.keep_event.specs.declared.event.Query.{Query as TheQuery};
 ghost use Rattle.keep_history.specs.Tasks.{Answered, Next, asks};
@@ -40,7 +41,7 @@ pub trait Steps {
     /// Whether a port of so many devices has those that it asks.
     ghost may_ask: { Self → ℕ → Type 0 };
 
-    /// Whether no end of it wants memory. Ends that carry a text as long as an answer do.
+    /// Whether no end of it wants memory, where the answer is listed for its query. Ends that carry a text as long as an answer do.
     ghost sure: { Self → Bool };
 
     /// Whether the task has ended. Then it is asked no more.
@@ -59,7 +60,7 @@ pub trait Steps {
         ensures taken { IfOk result (λ end. (next : List Answered → Next) → (answers : List Answered) → stands self.old next answers → IsTaken next (answers ++ answered reply.now ∷ []) end (stands self.new next)) }
         ensures ended { IfOk result (λ end. has_ended self.new ≡ is_some end) }
         ensures askable { (devices : ℕ) → may_ask self.old devices → may_ask self.new devices }
-        ensures sure { sure self.old ≡ true → IsOk result }
+        ensures sure { sure self.old ≡ true → IsAnswerOf (query_of self.old) reply.now.answer → IsOk result }
         ensures unchanged { OnErr result (self.new ≡ self.old) };
 
     /// Asks the one query that comes next. The port has the task's devices. After an error the task is as before; the query was asked only where the
@@ -69,8 +70,8 @@ pub trait Steps {
         requires askable { may_ask self.old (P.devices port.old) }
         ensures named { (next : List Answered → Next) → (answers : List Answered) → stands self.old next answers → next answers ≡ asks (query_of self.old) }
         ensures asked { AsksOnce (sure self.old) actor (query_of self.old)
-            (view P.told P.world P.stamp P.faults P.spent P.store_faults P.devices port.old)
-            (view P.told P.world P.stamp P.faults P.spent P.store_faults P.devices port.new) result }
+            (view P.told P.world P.stamp P.faults P.spent P.store_faults P.devices P.fault_plan port.old)
+            (view P.told P.world P.stamp P.faults P.spent P.store_faults P.devices P.fault_plan port.new) result }
         ensures taken { IfOk result (λ s. (next : List Answered → Next) → (answers : List Answered) → stands self.old next answers → IsTaken next (answers ++ answered s.reply ∷ []) s.end (stands self.new next)) }
         ensures ended { IfOk result (λ s. has_ended self.new ≡ is_some s.end) }
         ensures may_ask { may_ask self.new (P.devices port.new) }

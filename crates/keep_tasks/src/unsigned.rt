@@ -4,6 +4,7 @@ ghost use Rattle.keep_spec.specs.SignedText.{permission_hint};
 ghost use Rattle.keep_spec.specs.Times.{expiry_at};
 ghost use Rattle.keep_tasks.specs.Unsigned.{unsigned};
 
+use crate::room::push_bytes;
 use keep_config::Config;
 use keep_sign::{hex8, sign};
 use keep_spec::{Bytes, Digest, NANOS_PER_SECOND, NoMemory};
@@ -34,21 +35,8 @@ impl Model for Unsigned {
     ghost invariant = { λ u. vec_len u.text + 51 ≤ vec_capacity u.text };
 }
 
-// Appends bytes for which there is room.
-fn push_bytes(out: &mut Vec<u8>, bytes: &[u8])
-    requires { vec_len out.old + length bytes.now ≤ vec_capacity out.old }
-    ensures items { out.new.items ≡ out.old.items ++ bytes.now }
-    ensures len { vec_len out.new ≡ vec_len out.old + length bytes.now }
-    ensures room { vec_capacity out.old ≤ vec_capacity out.new }
-{
-    match out.extend_from_slice(bytes) {
-        Ok(()) => {}
-        Err(_) => unreachable!(),
-    }
-}
-
-// When a signature by a replica's time (nanoseconds since 1970) expires, in seconds since 1970.
-fn expiry_at(ttl: u32, mtime: u64) -> u32
+/// When a signature by a replica's time (nanoseconds since 1970) expires, in seconds since 1970.
+pub(crate) fn expiry_at(ttl: u32, mtime: u64) -> u32
     ensures { result ≡ expiry_at ttl mtime }
 {
     let expiry = mtime / NANOS_PER_SECOND + u64::from(ttl);

@@ -1,10 +1,14 @@
 // The UUIDs of collections.
-ghost use Rattle.std.specs.Prelude.{◌≡◌, ◌≤◌, ◌++◌, IfOk, OnOk, replicate};
+ghost use Rattle.std.specs.Prelude.{◌≡◌, ◌≤◌, ◌+◌, ◌++◌, IfOk, replicate, vec_len, vec_capacity};
 ghost use Rattle.keep_event.specs.Collections as collections;
+ghost use Rattle.keep_tasks.specs.Tables.{uuid_beginning};
 
+use crate::room::push_bytes;
+use itoa::Buffer;
 use keep_config::Config;
 use keep_spec::{Bytes, NoMemory, read_number};
 use std::alloc::Global;
+use std::marker::Model;
 
 /// How many digits the number of a collection has in its UUID.
 const NUMBER_DIGITS: usize = 15;
@@ -12,38 +16,62 @@ const NUMBER_DIGITS: usize = 15;
 /// How many bytes a UUID has.
 const UUID_SIZE: usize = 27;
 
+/// The most digits that a number of 64 bits has.
+const MOST_DIGITS: usize = 20;
+
+/// The beginning of the UUIDs of a cluster's collections, with room for a number.
+#[derive(Drop, Debug)]
+pub(crate) struct Unnumbered {
+    text: Vec<u8>,
+}
+
+impl Model for Unnumbered {
+    ghost use Rattle.std.specs.Prelude.{ℕ, List, ◌≤◌, ◌+◌, vec_len, vec_capacity};
+
+    ghost Value = { List ℕ };
+
+    ghost view = { λ u. u.text.items };
+
+    ghost invariant = { λ u. vec_len u.text + 20 ≤ vec_capacity u.text };
+}
+
+// Zeros, at most as many as a collection's number has digits.
 #[tactic(auto, using(crate::proofs::Padding::take_zeros))]
-fn push_zeros(out: &mut Vec<u8>, count: usize) -> Result<(), NoMemory>
-    requires { count ≤ NUMBER_DIGITS }
-    ensures { OnOk result (out.new.items ≡ out.old.items ++ replicate count 48) }
+fn push_zeros(out: &mut Vec<u8>, count: usize)
+    requires few { count ≤ NUMBER_DIGITS }
+    requires room { vec_len out.old + count ≤ vec_capacity out.old }
+    ensures items { out.new.items ≡ out.old.items ++ replicate count 48 }
+    ensures len { vec_len out.new ≡ vec_len out.old + count }
+    ensures room { vec_capacity out.old ≤ vec_capacity out.new }
 {
     let zeros = [b'0'; NUMBER_DIGITS];
-    out.extend_from_slice(&zeros[..count])?;
-    Ok(())
+    push_bytes(out, &zeros[..count]);
 }
 
-fn push_padded(alloc: Global, out: &mut Vec<u8>, number: u64) -> Result<(), NoMemory>
-    ensures { OnOk result (out.new.items ≡ out.old.items ++ collections.padded number) }
-{
-    let digits = number.to_string(alloc)?;
-    push_zeros(out, NUMBER_DIGITS.saturating_sub(digits.len()))?;
-    out.extend_from_slice(digits.as_bytes())?;
-    Ok(())
-}
+impl Unnumbered {
+    /// The beginning of a configuration's cluster.
+    pub(crate) fn new(alloc: Global, config: &Config) -> Result<Unnumbered, NoMemory>
+        ensures { IfOk result (λ u. u ≡ uuid_beginning config.now) }
+    {
+        let cluster = config.cluster.as_slice();
+        let kind = b"-4zz18-".as_slice();
+        let mut room = Vec::with_capacity(alloc, cluster.len() + kind.len() + MOST_DIGITS)?;
+        push_bytes(&mut room, cluster);
+        push_bytes(&mut room, kind);
+        Ok(Unnumbered { text: room })
+    }
 
-/// Returns the UUID of a collection by its number: the cluster's name, `-4zz18-` and the number in 15 decimal digits, more only where it has more.
-#[tactic(auto, unfolding(keep_event::specs::Collections::collection_uuid))]
-pub(crate) fn collection_uuid(
-    alloc: Global,
-    config: &Config,
-    number: u64,
-) -> Result<Bytes, NoMemory>
-    ensures { IfOk result (λ b. b ≡ collections.collection_uuid config.now number) }
-{
-    let mut out = Vec::from_slice(alloc, config.cluster.as_slice())?;
-    out.extend_from_slice(b"-4zz18-")?;
-    push_padded(alloc, &mut out, number)?;
-    Ok(Bytes::of(out))
+    /// The UUID with a number, in 15 decimal digits, more only where it has more. Takes no memory.
+    pub(crate) fn with_number(self, number: u64) -> Bytes
+        ensures { result ≡ self ++ collections.padded number }
+    {
+        let Unnumbered { text: mut out } = self;
+        let mut buffer = Buffer::new();
+        let digits = buffer.format(number).as_bytes();
+        push_zeros(&mut out, NUMBER_DIGITS.saturating_sub(digits.len()));
+        push_bytes(&mut out, digits);
+        Bytes::of(out)
+    }
 }
 
 fn has_collection_form(config: &Config, text: &[u8]) -> bool
