@@ -20,6 +20,8 @@ use Rattle.keep_history.specs.declared.task.Opening.TheVariants as O
 use Rattle.keep_history.specs.declared.task.TaskState.{TaskState}
 use Rattle.keep_history.specs.declared.task.TaskState.TheVariants as S
 use Rattle.keep_history.specs.Names.{Names, state_of_name}
+use Rattle.keep_history.specs.Tasks.{NamesWithin}
+use Rattle.keep_spec.specs.Config.{Configuration}
 
 -- NAMES AND READINGS
 abbrev pub is_name_character : ℕ → Bool
@@ -54,6 +56,11 @@ HasTimes _ = ⊤
 abbrev pub HasCommandTimes : Command → Type 0
 HasCommandTimes (C.Open name reading opening) = HasTimes opening
 HasCommandTimes (C.Finish name reading) = ⊤
+
+-- the server or the device that a command names is one of the configuration
+abbrev pub IsCommandWithin : Configuration → Command → Type 0
+IsCommandWithin c (C.Open name reading opening) = NamesWithin c opening
+IsCommandWithin c (C.Finish name reading) = ⊤
 
 -- BYTES AND REFERENCES
 abbrev pub lower_case : List ℕ → Result (List ℕ) FromHexError → Option (List ℕ)

@@ -27,9 +27,10 @@ scene_with stage s = record { count = stage.events; state = s; table = stage.tab
 abbrev pub scene_of : {S : Type 0} → Stage S → Option Scene
 scene_of stage = option_map (scene_with stage) (state_of stage.volume)
 
--- what a stage keeps to under its configuration, which has one device: the rules of it and of its table, and open tasks that may be asked
+-- what a stage keeps to under its configuration, which has one device and one server: the rules of the device and of the table, and open tasks that may be asked
 pub record IsStageOf {S : Type 0} (config : Configuration) (stage : Stage S) : Type 0 where
   pub one_device : length config.devices ≡ 1
+  pub one_server : length config.servers ≡ 1
   pub device_rules : stage.volume.rules ≡ rules_of config
   pub table_rules : stage.table.rules ≡ table_rules_of config
   pub askable : AreAskable stage.names.entries

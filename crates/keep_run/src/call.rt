@@ -36,6 +36,7 @@ fn is_run(words: &[String]) -> bool
 // The rules of the configuration's one device.
 fn rules_of(config: &Config) -> DeviceRules
     requires one { length config.now.devices ≡ 1 }
+    requires one_server { length config.now.servers ≡ 1 }
     ensures rules { result ≡ rules_of config.now }
 {
     let device = config.device(0);
@@ -59,6 +60,7 @@ fn run_store<R: Source, W: Sink, S: Store>(
     requires unfailed { lines_failed lines.old ≡ None }
     requires first { lines_number lines.old ≡ 1 }
     requires one { length config.now.devices ≡ 1 }
+    requires one_server { length config.now.servers ≡ 1 }
     ensures told { AllTold (lines_left lines.old) (told_state (S.held store) (S.noted store)) (W.taken sink.old) (λ bytes start t.
         StoreRan config.now (beginning (lines_taken lines.old) 1 bytes start t) result.1 (S.held result.0) (S.noted result.0) (S.faults store) (S.faults result.0) (W.taken sink.new)) }
     ensures same_reference { lines_name lines.new ≡ lines_name lines.old }
@@ -103,6 +105,7 @@ fn run_stores<R: Source, W: Sink, S: Store>(
     requires unfailed { lines_failed lines.old ≡ None }
     requires first { lines_number lines.old ≡ 1 }
     requires one { length config.now.devices ≡ 1 }
+    requires one_server { length config.now.servers ≡ 1 }
     requires has_store { 0 < vec_len stores.old }
     ensures told { AllTold (lines_left lines.old) (first_state S.held S.noted stores.old.items) (W.taken sink.old) (λ bytes start t.
         FirstRan S.held S.noted S.faults config.now (beginning (lines_taken lines.old) 1 bytes start t) stores.old.items stores.new.items result (W.taken sink.new)) }
@@ -127,6 +130,7 @@ fn run_stores<R: Source, W: Sink, S: Store>(
 fn misfit(config: &Config, stores: usize) -> Option<Field>
     ensures field { result ≡ misfit stores config.now }
     ensures one { result ≡ None → length config.now.devices ≡ 1 }
+    ensures one_server { result ≡ None → length config.now.servers ≡ 1 }
     ensures has_store { result ≡ None → 0 < stores }
 {
     let devices = config.devices.len();
@@ -145,6 +149,7 @@ fn misfit(config: &Config, stores: usize) -> Option<Field>
 fn read_config(alloc: Global, text: &[u8], stores: usize) -> Result<Config, Status>
     ensures ok { IfOk result (λ c. config_for stores text.now ≡ Ok c) }
     ensures one { IfOk result (λ c. length c.devices ≡ 1) }
+    ensures one_server { IfOk result (λ c. length c.servers ≡ 1) }
     ensures has_store { IfOk result (λ c. 0 < stores) }
     ensures err { IfErr result (λ status. IsConfigRefusal status (config_for stores text.now)) }
 {

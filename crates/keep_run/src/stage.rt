@@ -3,7 +3,8 @@ ghost use Rattle.std.specs.Prelude.{◌≡◌, ◌≤◌, ◌+◌, Ok, true, fal
 ghost use Rattle.keep_spec.specs.Times.{IsReading};
 ghost use Rattle.keep_history.specs.Effects.{state_after};
 ghost use Rattle.keep_history.specs.Names.{state_of_name, with_name};
-ghost use Rattle.keep_history.specs.Script.{reading_of, HasTimes, HasCommandTimes};
+ghost use Rattle.keep_history.specs.Script.{reading_of, HasTimes, HasCommandTimes, IsCommandWithin};
+ghost use Rattle.keep_history.specs.Tasks.{NamesWithin};
 ghost use Rattle.keep_run.specs.Commands.{DoesCommand, RefusesCommand, StopsCommand, open_task_of};
 ghost use Rattle.keep_run.specs.Scenes.{IsStageOf, HasRoom, GrowsByLine};
 
@@ -84,6 +85,7 @@ fn open_task<S: Store>(
     requires sound { IsStageOf config.now stage.old }
     requires room { HasRoom stage.old }
     requires times { HasTimes opening }
+    requires within { NamesWithin config.now opening }
     ensures done { OnOk result (DoesCommand config.now (Command.Open name reading opening) stage.old stage.new out.old.items out.new.items) }
     ensures stopped { OnErr result (StopsCommand config.now (Command.Open name reading opening) stage.old stage.new.volume) }
     ensures sound { IfOk result (λ _. IsStageOf config.now stage.new) }
@@ -155,6 +157,7 @@ pub(crate) fn do_command<S: Store>(
     requires room { HasRoom stage.old }
     requires reading { IsReading (reading_of command) }
     requires times { HasCommandTimes command }
+    requires within { IsCommandWithin config.now command }
     ensures done { result ≡ Ok true → DoesCommand config.now command stage.old stage.new out.old.items out.new.items }
     ensures refused { result ≡ Ok false → RefusesCommand config.now command stage.old stage.new.volume }
     ensures stopped { OnErr result (StopsCommand config.now command stage.old stage.new.volume) }

@@ -1,8 +1,9 @@
 // The command of a line.
-ghost use Rattle.std.specs.Prelude.{◌≡◌, IfOk, IfSome};
+ghost use Rattle.std.specs.Prelude.{◌≡◌, ◌<◌, length, IfOk, IfSome};
+ghost use Rattle.keep_spec.specs.Config.{Configuration};
 ghost use Rattle.serde_json.specs.View.{view};
 ghost use Rattle.keep_spec.specs.Times.{IsReading};
-ghost use Rattle.keep_history.specs.Script.{command_of, command_of_data, finishes, is_open, opens, reading_of, HasCommandTimes};
+ghost use Rattle.keep_history.specs.Script.{command_of, command_of_data, finishes, is_open, opens, reading_of, HasCommandTimes, IsCommandWithin};
 ghost use Rattle.keep_history.specs.Names.{state_of_name};
 
 use crate::fields::{name_at, reading_at};
@@ -15,7 +16,8 @@ use std::alloc::Global;
 use std::collections::BTreeMap;
 
 /// Parses one script line, without its newline, given the names that earlier lines opened and what has become of their tasks. `None` means that it is no
-/// script line after them. `NoMemory` is the only error, and changes nothing. The form of the lines is this project's own.
+/// script line after them. A server or a device that it names is one of each configuration that has any. `NoMemory` is the only error, and changes nothing.
+/// The form of the lines is this project's own.
 #[tactic(auto, unfolding(keep_history::specs::Script::command_of))]
 pub fn read_command(
     alloc: Global,
@@ -25,6 +27,7 @@ pub fn read_command(
     ensures command { IfOk result (λ o. o ≡ command_of names.now.entries text.now) }
     ensures reading { IfOk result (λ o. IfSome o (λ c. IsReading (reading_of c))) }
     ensures times { IfOk result (λ o. IfSome o HasCommandTimes) }
+    ensures within { IfOk result (λ o. IfSome o (λ command. (c : Configuration) → 0 < length c.devices → 0 < length c.servers → IsCommandWithin c command)) }
 {
     match value_of(alloc, text)? {
         Some(value) => command_of_value(alloc, names, &value),

@@ -89,6 +89,7 @@ impl GetTask {
         locator: &[u8],
         reading: u64,
     ) -> Result<Opened<GetTask>, NoMemory>
+        requires within { server < length config.now.servers }
         ensures opened { IfOk result (λ o. IsOpened (opened config.now (TheOpening.Get token.now server locator.now) reading) o (λ t task.
             IsReady (⟦<GetTask as Steps>⟧.has_ended t) (⟦<GetTask as Steps>⟧.stands t) (⟦<GetTask as Steps>⟧.may_ask t) config.now task)) }
     {

@@ -1,7 +1,7 @@
 // What an opening makes: a task, or an end at once.
 ghost use Rattle.std.specs.Prelude.{◌≡◌, ◌<◌, ℕ, List, IfOk, All, length};
 ghost use Rattle.keep_spec.specs.Config.{devices_of};
-ghost use Rattle.keep_history.specs.Tasks.{opened, put_opened, get_opened, touch_opened, untrash_opened, on_any, permitted_block, asks_table, by_verdict, has_other_digest, is_read_only, writable};
+ghost use Rattle.keep_history.specs.Tasks.{opened, NamesWithin, put_opened, get_opened, touch_opened, untrash_opened, on_any, permitted_block, asks_table, by_verdict, has_other_digest, is_read_only, writable};
 ghost use Rattle.keep_history.specs.declared.task.Task.{Task as TheTask};
 ghost use Rattle.keep_spec.specs.declared.token.TokenId.{TokenId as TheTokenId};
 ghost use Rattle.keep_tasks.specs.Openings.{AsksTable, HasDevicesBelow, made};
@@ -344,8 +344,8 @@ fn table_query(config: &Config, opening: Opening) -> TableQuery
     }
 }
 
-/// The task that an opening makes at a reading (nanoseconds since 1970), or its end at once. Nothing is asked. The devices of a walk are devices of the
-/// configuration.
+/// The task that an opening makes at a reading (nanoseconds since 1970), or its end at once. Nothing is asked. A server or a device that the opening names is
+/// one of the configuration, and so are the devices of a walk.
 #[tactic(auto, unfolding(keep_history::specs::Tasks::opened))]
 pub fn opened(
     alloc: Global,
@@ -353,6 +353,7 @@ pub fn opened(
     opening: Opening,
     reading: u64,
 ) -> Result<Result<Task, Outcome>, NoMemory>
+    requires within { NamesWithin config.now opening }
     ensures opened { IfOk result (λ r. r ≡ opened config.now opening reading) }
     ensures within { IfOk result (HasDevicesBelow (length config.now.devices)) }
 {

@@ -131,6 +131,7 @@ impl PutTask {
         bytes: Bytes,
         digest: Option<Digest>,
     ) -> Result<Opened<PutTask>, NoMemory>
+        requires within { server < length config.now.servers }
         ensures opened { IfOk result (λ o. (reading : ℕ) → IsOpened (opened config.now (TheOpening.Put token server bytes digest) reading) o (λ t task.
             IsReady (⟦<PutTask as Steps>⟧.has_ended t) (⟦<PutTask as Steps>⟧.stands t) (⟦<PutTask as Steps>⟧.may_ask t) config.now task)) }
     {

@@ -2,6 +2,7 @@
 ghost use Rattle.std.specs.Prelude.{◌≡◌, ◌<◌};
 
 use crate::steps::{Opened, Steps};
+use keep_config::Config;
 use keep_event::{DeviceQuery, Query, Reply};
 use keep_history::Outcome;
 use keep_spec::NoMemory;
@@ -43,17 +44,16 @@ impl Steps for RestartTask {
 }
 
 impl RestartTask {
-    ghost use Rattle.keep_history.specs.Tasks.{next, opened};
+    ghost use Rattle.keep_history.specs.Tasks.{opened};
     ghost use Rattle.keep_history.specs.declared.task.Opening.{Opening as TheOpening};
-    ghost use Rattle.keep_tasks.specs.Steps.{IsOpened};
-    ghost use Rattle.keep_spec.specs.Config.{Configuration};
-    ghost use Rattle.std.specs.Prelude.{false, [], ℕ};
+    ghost use Rattle.keep_tasks.specs.Steps.{IsOpened, IsReady};
+    ghost use Rattle.std.specs.Prelude.{ℕ, length};
 
-    /// Opens a restart of a device, by its number in the configuration.
-    pub fn open(device: u32) -> Opened<RestartTask>
-        ensures opened { (c : Configuration) → (reading : ℕ) → IsOpened (opened c (TheOpening.Restart device) reading) result (λ t task.
-            (⟦<RestartTask as Steps>⟧.has_ended t ≡ false) × (⟦<RestartTask as Steps>⟧.stands t (next c task) []
-            × ((n : ℕ) → device < n → ⟦<RestartTask as Steps>⟧.may_ask t n))) }
+    /// Opens a restart of a device, by its number in the configuration. It never ends at once.
+    pub fn open(_config: &Config, device: u32) -> Opened<RestartTask>
+        requires within { device < length _config.now.devices }
+        ensures opened { (reading : ℕ) → IsOpened (opened _config.now (TheOpening.Restart device) reading) result (λ t task.
+            IsReady (⟦<RestartTask as Steps>⟧.has_ended t) (⟦<RestartTask as Steps>⟧.stands t) (⟦<RestartTask as Steps>⟧.may_ask t) _config.now task) }
     {
         Opened::Task(RestartTask {
             query: Query::Device(device, DeviceQuery::Restart),

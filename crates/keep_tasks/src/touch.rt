@@ -95,6 +95,7 @@ impl TouchTask {
         locator: &[u8],
         reading: u64,
     ) -> Result<Opened<TouchTask>, NoMemory>
+        requires within { server < length config.now.servers }
         ensures opened { IfOk result (λ o. IsOpened (opened config.now (TheOpening.Touch token server locator.now) reading) o (λ t task.
             IsReady (⟦<TouchTask as Steps>⟧.has_ended t) (⟦<TouchTask as Steps>⟧.stands t) (⟦<TouchTask as Steps>⟧.may_ask t) config.now task)) }
     {

@@ -69,6 +69,7 @@ impl UntrashTask {
         token: &[u8],
         digest: Digest,
     ) -> Result<Opened<UntrashTask>, NoMemory>
+        requires within { server < length config.now.servers }
         ensures opened { IfOk result (λ o. (reading : ℕ) → IsOpened (opened config.now (TheOpening.Untrash token.now server digest) reading) o (λ t task.
             IsReady (⟦<UntrashTask as Steps>⟧.has_ended t) (⟦<UntrashTask as Steps>⟧.stands t) (⟦<UntrashTask as Steps>⟧.may_ask t) config.now task)) }
     {

@@ -8,6 +8,7 @@ use Rattle.keep_run.proofs.call.run_store.Goals as goal
 pub run_lines-status-requires-clause-sound : goal.run_lines-status-requires-clause-sound
 run_lines-status-requires-clause-sound g c = record {
   one_device = c.requires.one;
+  one_server = c.requires.one_server;
   device_rules = c.in-Ok.ensures.opened.rules ∙ c.rules_of.ensures.rules;
   table_rules = c.new.ensures.rules ∙ c.rules_of-2.ensures;
   askable = let none : c.new-2.result.entries ≡ [] = search rules in subst AreAskable (sym none) tt;

@@ -34,3 +34,9 @@ returns-clause-told g c =
 
 pub returns-then-is_empty-clause-grows : goal.returns-then-is_empty-clause-grows
 returns-then-is_empty-clause-grows g c = record { events = omega arith; names = omega arith; table = same-few c.args.stage.now.table.state }
+
+pub do_command-requires-clause-within : goal.do_command-requires-clause-within
+do_command-requires-clause-within g c =
+    let command = rw (c.in-Ok-Some.field-0-is, c.as_slice-2.ensures) at c.in-Ok-Some.ensures in
+    let sound = c.requires.sound in
+    command.within c.args.config.now (omega (arith, sound.one_device)) (omega (arith, sound.one_server))

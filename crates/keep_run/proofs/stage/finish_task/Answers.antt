@@ -100,6 +100,7 @@ returns-clause-sound g c =
     let sound = c.requires.sound in
     record {
       one_device = sound.one_device;
+      one_server = sound.one_server;
       device_rules = c.in_ok-outcome.ensures.rules ∙ sound.device_rules;
       table_rules = c.in_ok-outcome.ensures.table_rules ∙ sound.table_rules;
       askable = rw named (ended-askable name outcome es sound.askable);
@@ -110,7 +111,7 @@ returns-in_default-clause-sound g c =
     let es = c.args.stage.now.names.entries in
     let first = c.in_ok-state.ensures.set ∙ ap (λ w. with_name w S.Ended es) c.in_ok-duplicate.ensures in
     let sound = c.requires.sound in
-    record { one_device = sound.one_device; device_rules = sound.device_rules; table_rules = sound.table_rules; askable = rw first (gone-askable c.args.name es sound.askable) }
+    record { one_device = sound.one_device; one_server = sound.one_server; device_rules = sound.device_rules; table_rules = sound.table_rules; askable = rw first (gone-askable c.args.name es sound.askable) }
 
 pub returns-clause-grows : goal.returns-clause-grows
 returns-clause-grows g c = record {

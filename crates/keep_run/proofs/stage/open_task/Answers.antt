@@ -57,6 +57,7 @@ returns-in-Err-clause-sound g c =
     let sound = c.requires.sound in
     record {
       one_device = sound.one_device;
+      one_server = sound.one_server;
       device_rules = sound.device_rules;
       table_rules = sound.table_rules;
       askable = rw named (ended-askable c.args.name c.in-Err.outcome c.args.stage.now.names.entries sound.askable);
@@ -68,6 +69,7 @@ returns-clause-sound g c =
     let sound = c.requires.sound in
     record {
       one_device = sound.one_device;
+      one_server = sound.one_server;
       device_rules = sound.device_rules;
       table_rules = sound.table_rules;
       askable = rw c.in_ok-set_name.ensures.set (open-askable c.args.name c.in-Ok.task _ c.args.stage.now.names.entries

@@ -3,4 +3,6 @@ use Rattle.keep_tasks.proofs.Opens.{task-made, restart-opens, restart-begins}
 use Rattle.keep_tasks.proofs.restart.RestartTask.open.Goals as goal
 
 pub returns : goal.returns
-returns c = record { opened = λ config reading. task-made _ _ _ _ (restart-opens config c.args.device reading) (refl, (restart-begins config c.args.device, λ n lt. lt)) }
+returns c = record {
+  opened = λ reading. task-made _ _ _ _ (restart-opens c.args._config.now c.args.device reading) (refl, (restart-begins c.args._config.now c.args.device, c.requires.within));
+}
