@@ -29,3 +29,7 @@ pub mod Theorem
 pub mod Unheld
 pub mod Unlisted
 pub mod Texts
+pub mod HeldVersions
+pub mod Reversed
+pub mod LiveDigests
+pub mod HeldNowhere

@@ -2,7 +2,7 @@
 use Rattle.std.proofs.Common.{◌≡◌, ◌+◌, ℕ, zero, suc, List, [], ◌∷◌, ◌++◌, filter, cond, Bool, true, false, refl, ◌∙◌, ap, arith}
 use Rattle.keep_spec.specs.Members.{numbers_from}
 
-numbers-next : (k n m : ℕ) → m ≡ k + n → numbers_from k (suc n) ≡ numbers_from k n ++ m ∷ []
+pub numbers-next : (k n m : ℕ) → m ≡ k + n → numbers_from k (suc n) ≡ numbers_from k n ++ m ∷ []
 numbers-next k zero m e = ap (λ v. v ∷ []) (omega arith)
 numbers-next k (suc n) m e = ap (λ v. k ∷ v) (numbers-next (k + 1) n m (omega arith))
 

@@ -34,7 +34,8 @@ use Rattle.keep_core.specs.Allowed.{IsAllowed}
 use Rattle.keep_spec.specs.Members.{IsIn}
 use Rattle.keep_event.specs.World.{device_rules}
 use Rattle.keep_core.specs.Past.{Past, left_by, device_after, table_after, IsAnswered}
-use Rattle.keep_core.specs.Rows.{Row, Superseded, rows, rows_after, delete_at, deleted_by, is_over, is_past, stays_at_update, stays_at_sweep, superseded_by}
+use Rattle.keep_core.specs.declared.held.Superseded.{Superseded}
+use Rattle.keep_core.specs.Rows.{Row, rows, rows_after, delete_at, deleted_by, is_over, is_past, stays_at_update, stays_at_sweep, superseded_by}
 use Rattle.keep_core.specs.Signatures.{Signature, digest_named, token_carried, time_told, put_signature, signatures_on, read_signatures, signatures_of, issued}
 use Rattle.keep_core.specs.Times.{now, skew, IsSteady}
 use Rattle.keep_core.proofs.Devices.{device-facts}

@@ -30,7 +30,8 @@ use Rattle.keep_table.proofs.Versions.{version-le}
 use Rattle.keep_core.specs.Allowed.{IsAllowed}
 use Rattle.keep_spec.specs.Members.{IsIn}
 use Rattle.keep_core.specs.Past.{Past, table_after, table_left_by, IsAnswered}
-use Rattle.keep_core.specs.Rows.{Row, Superseded, rows, rows_after, rows_made, makes, delete_at, deleted_by, is_over, is_past, stays_at_update, stays_at_sweep, superseded_by, new_row}
+use Rattle.keep_core.specs.declared.held.Superseded.{Superseded}
+use Rattle.keep_core.specs.Rows.{Row, rows, rows_after, rows_made, makes, delete_at, deleted_by, is_over, is_past, stays_at_update, stays_at_sweep, superseded_by, new_row}
 use Rattle.keep_order.proofs.Lists.{in-map, map-in, in-filter, filter-in, in-either, in-left, in-right, find-in, all-at}
 use Rattle.keep_core.proofs.TableLines.{is_refusal, save-cases, update-cases, trash-cases, restore-cases, read-cases}
 

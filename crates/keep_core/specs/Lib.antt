@@ -8,3 +8,5 @@ pub mod Safe
 pub mod Signatures
 pub mod Times
 pub mod Unheld
+pub mod Seen
+pub mod Judged

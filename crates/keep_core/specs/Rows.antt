@@ -14,12 +14,8 @@ use Rattle.keep_event.specs.declared.event.Query.{Query}
 use Rattle.keep_event.specs.declared.event.Query.TheVariants as Q
 use Rattle.keep_event.specs.declared.event.Answer.{Answer}
 use Rattle.keep_event.specs.declared.event.Answer.TheVariants as A
+use Rattle.keep_core.specs.declared.held.Superseded.{Superseded}
 use Rattle.keep_core.specs.Past.{Past}
-
--- by the update at a reading, which may have asked to keep it as long as its collection
-pub record Superseded : Type 0 where
-  pub at : ℕ
-  pub preserved : Bool
 
 -- a version of a collection: what its save or update made, and by what it was superseded
 pub record Row : Type 0 where

@@ -2,8 +2,8 @@ use Rattle.std.proofs.Common.{◌≡◌, ◌+◌, ◌++◌, ◌∷◌, [], rever
 use Rattle.keep_core.specs.Holds.{holds}
 use Rattle.keep_spec.specs.Members.{numbers_from}
 use Rattle.keep_core.proofs.Numbers.{filter_next}
-use Rattle.keep_core.proofs.holding.holders.Goals as goal
-use Rattle.keep_core.proofs.holding.holders.Goals.{else-holds-via-then-holds+else-is_err, else-holds-via-else-holds}
+use Rattle.keep_core.proofs.holding.holders_among.Goals as goal
+use Rattle.keep_core.proofs.holding.holders_among.Goals.{else-holds-via-then-holds+else-is_err, else-holds-via-else-holds}
 
 pub loop-device-preserved : goal.loop-device-preserved
 loop-device-preserved c =
