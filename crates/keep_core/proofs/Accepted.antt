@@ -1,4 +1,4 @@
--- What a save or an update names was signed before, by a signature that is good at its reading.
+-- What a save or an update names was signed before, by a signature that is good at its reading: `accepted-row`; an ascending list has no other members: `in-ascending`.
 use Rattle.std.proofs.Common.{◌≡◌, ◌≤◌, ◌+◌, ◌*◌, ◌^◌, ℕ, List, [], ◌∷◌, map, filter, Bool, true, false, not, refl, sym, ◌∙◌, ap, subst, Option, None, Some, IfSome, option_map, Ok, Err, inl, inr, if◌then◌else◌, Less, Equal, Greater, Ordering}
 use Rattle.std.specs.Prelude.{◌⊎◌, nat_lt}
 use Rattle.std.specs.Option.{option_or, option_map_or}

@@ -1,4 +1,4 @@
--- What is held but wasn't asked for by a round has a replica that the round can't trash.
+-- What is held but wasn't asked for by a round has a replica that the round can't trash: `after-scan`.
 use Rattle.std.proofs.Common.{◌≡◌, ◌≤◌, ◌<◌, ◌+◌, ◌*◌, ◌^◌, ℕ, List, [], ◌∷◌, length, Bool, true, false, refl, sym, ◌∙◌, ap, subst, Option, None, Some, IfSome, arith, inl, inr, le_trans}
 use Rattle.std.specs.Prelude.{◌⊎◌}
 use Rattle.std.specs.Option.{option_map_or}

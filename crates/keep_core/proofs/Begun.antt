@@ -1,4 +1,4 @@
--- When a round began, which devices were cleared for it and when its scans ended, once they have ended.
+-- When a round began, which devices were cleared for it and when its scans ended, once they have ended: `same-start`, `has-ended`, `started-low`.
 use Rattle.std.proofs.Common.{◌≡◌, ◌≤◌, ◌<◌, ◌+◌, max, ℕ, List, [], ◌∷◌, Bool, true, false, ◌&&◌, refl, sym, ◌∙◌, ap, subst, Option, None, Some, arith, inl, inr, nat_eq}
 use Rattle.std.specs.Prelude.{◌⊎◌}
 use Rattle.std.proofs.lemmas.Bool.{eqb-true, eq-eqb, and_parts}

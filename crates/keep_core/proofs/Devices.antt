@@ -1,4 +1,4 @@
--- What is known of each device after any allowed past.
+-- What is known of each device after any past that may happen: `device-facts`, a step of it `device-next`.
 use Rattle.std.proofs.Common.{◌≡◌, ◌≤◌, ℕ, List, [], ◌∷◌, Bool, true, false, refl, sym, ◌∙◌, ap, subst, is_some, arith, inl, inr, nat_eq, if◌then◌else◌}
 use Rattle.std.specs.Prelude.{◌⊎◌}
 use Rattle.std.proofs.lemmas.Bool.{eqb-true, eqb-false}

@@ -1,4 +1,4 @@
--- A past that is allowed, in which a block that nothing names is put, listed by a round and trashed: the theorem doesn't speak of nothing.
+-- A past that may happen, in which a block that nothing names is put, listed by a round and trashed: `allowed`. So the theorem doesn't speak of nothing.
 use Rattle.std.proofs.Common.{◌≡◌, ◌<◌, ℕ, zero, suc, List, [], ◌∷◌, true, false, refl, sym, ap, None, Some, arith, inl, inr, codes, count_by}
 use Rattle.std.specs.Prelude.{◌==◌}
 use Rattle.md5.proofs.StandardFacts.{digest_of_abc}

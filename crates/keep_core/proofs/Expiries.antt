@@ -1,4 +1,4 @@
--- How late the expiries of signatures are: the one place where their rule counts.
+-- How late the expiries of signatures are, the one place where their rule counts: of a put `put-expiry-low`, of a read `read-expiry-low`.
 use Rattle.std.proofs.Common.{◌≡◌, ◌≤◌, ◌<◌, ◌+◌, ◌*◌, ◌/◌, ◌-◌, ◌^◌, min, ℕ, Bool, true, false, refl, sym, ◌∙◌, Option, None, Some, arith, inl, inr, div-mul-le_self}
 use Rattle.std.specs.Prelude.{◌⊎◌, if◌then◌else◌}
 use Rattle.std.specs.Option.{option_map_or}

@@ -1,4 +1,4 @@
--- What a name finds in a list after a put, a removal or a move.
+-- What a name finds in a list after a put, a removal or a move: `find-put-same`, `find-put-other`, `find-without-same`, `find-without-other`.
 use Rattle.std.proofs.Common.{◌≡◌, List, [], ◌∷◌, ◌++◌, map, refl, sym, ◌∙◌, ap, Option, None, Some, option_map, subst, inl, inr}
 use Rattle.std.specs.List.{AllByRecursion}
 use Rattle.std.specs.declared.cmp.Ordering.{Ordering}

@@ -1,4 +1,4 @@
--- A trash step leaves what its round's plan kept.
+-- A trash step leaves what its round's plan kept: `kept-held`, `copies-left`; no device keeps a lower round then: `trashed-low`.
 use Rattle.std.proofs.Common.{◌≡◌, ◌≤◌, ◌<◌, ◌+◌, ℕ, List, [], ◌∷◌, length, count_by, Bool, true, false, refl, sym, ◌∙◌, subst, is_some, arith, inl, inr}
 use Rattle.std.specs.Prelude.{◌⊎◌, ◌==◌}
 use Rattle.std.proofs.lemmas.Bool.{eqb-true}

@@ -1,4 +1,4 @@
--- What each line of the device machine does to the replica of one digest.
+-- What each line of the device machine does to the replica of one digest: it stays, is put, or goes (`step-does`).
 use Rattle.std.proofs.Common.{◌≡◌, ◌<◌, ◌≤◌, ◌+◌, ℕ, Equal, List, [], ◌∷◌, Bool, true, false, refl, sym, ◌∙◌, ap, subst, Option, None, Some, IfSome, is_some, max, arith, inl, inr, map, filter, if◌then◌else◌}
 use Rattle.std.specs.Prelude.{◌⊎◌, nat_lt, ◌==◌, ◌-◌, length, unwrap_or}
 use Rattle.std.specs.List.{find as list_find}

@@ -1,4 +1,4 @@
--- Each row that is held was made of a request that nothing refused.
+-- Each row that is held was made of a request that nothing refused: `rows-made`.
 use Rattle.std.proofs.Common.{◌≡◌, ◌≤◌, ◌+◌, ℕ, [], ◌∷◌, map, filter, Bool, true, false, ◌&&◌, refl, sym, ◌∙◌, ap, subst, Option, None, Some, is_none, option_map, inl, inr, nat_eq, if◌then◌else◌}
 use Rattle.std.specs.Prelude.{◌⊎◌, nat_le}
 use Rattle.std.specs.Option.{option_or}

@@ -1,4 +1,4 @@
--- The first numbers, one more at a time.
+-- The first numbers, one more at a time: `numbers-next`, `filter_next`.
 use Rattle.std.proofs.Common.{◌≡◌, ◌+◌, ℕ, zero, suc, List, [], ◌∷◌, ◌++◌, filter, cond, Bool, true, false, refl, ◌∙◌, ap, arith}
 use Rattle.keep_spec.specs.Members.{numbers_from}
 

@@ -1,4 +1,4 @@
--- A round that is asked for in order: what is known of it between its events, for whoever shows that a run's history is allowed.
+-- A round that is asked for in order: what is known of it between its events, for whoever shows that a run's history may happen: `own-event`, `other-event`, `own-in-order`, `counted-once`.
 use Rattle.std.proofs.Common.{◌≡◌, ◌≤◌, ◌+◌, ℕ, List, [], ◌∷◌, count_by, refl, sym, ◌∙◌, ap, subst, Option, None, Some, arith, inl, inr}
 use Rattle.std.specs.Prelude.{◌==◌}
 use Rattle.std.specs.List.{AllByRecursion}

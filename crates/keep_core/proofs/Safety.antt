@@ -1,4 +1,4 @@
--- The signature-lifetime theorem.
+-- The signature-lifetime theorem: `safe`, `kept`, `signature-lifetime`; each digest that a version names is held by some device: `refs-held`.
 use Rattle.std.proofs.Common.{◌≡◌, ◌≤◌, ◌<◌, ◌+◌, ◌*◌, ◌^◌, ℕ, List, [], ◌∷◌, map, length, Bool, true, false, refl, sym, ◌∙◌, ap, subst, Option, None, Some, is_some, arith, inl, inr, ne_eqb, if◌then◌else◌}
 use Rattle.std.specs.Prelude.{◌⊎◌}
 use Rattle.std.specs.Option.{option_map_or}

@@ -1,4 +1,4 @@
--- What the definitions give on small pasts.
+-- What the definitions give on small pasts: each line is a sample.
 use Rattle.std.proofs.Common.{◌≡◌, ℕ, zero, suc, List, [], ◌∷◌, length, true, false, refl, None, map}
 use Rattle.keep_event.specs.declared.device.DeviceQuery.TheVariants as DQ
 use Rattle.keep_event.specs.declared.device.DeviceAnswer.TheVariants as D

@@ -1,4 +1,4 @@
--- The scans of a round give each row that is held when they end.
+-- The scans of a round give each row that is held when they end: `scanned-given`, `asked-given`; of more rows more copies are wanted: `wanted-more`.
 use Rattle.std.proofs.Common.{◌≡◌, ◌≤◌, ◌<◌, ◌+◌, ℕ, zero, suc, List, [], ◌∷◌, ◌++◌, map, filter, take, length, Bool, true, false, ◌&&◌, ◌||◌, refl, sym, ◌∙◌, ap, subst, Option, None, Some, unwrap_or, is_none, arith, inl, inr, nat_eq, if◌then◌else◌}
 use Rattle.std.specs.Prelude.{◌⊎◌, nat_lt, nat_le, ⊤}
 use Rattle.std.specs.List.{last_or, list_any}

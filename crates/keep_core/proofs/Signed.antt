@@ -1,4 +1,4 @@
--- A signature that is live has a device that holds its block, or a row that names it and stays as long as it is good.
+-- A signature that is live has a device that holds its block, or a row that names it and stays as long as it is good: `signed`.
 use Rattle.std.proofs.Common.{◌≡◌, ◌≤◌, ◌<◌, ◌+◌, ◌*◌, ◌^◌, max, ℕ, List, [], ◌∷◌, map, filter, length, Bool, true, false, not, ◌&&◌, ◌||◌, refl, sym, ◌∙◌, ap, subst, Option, None, Some, IfSome, is_none, arith, inl, inr, nat_eq, if◌then◌else◌}
 use Rattle.std.specs.Prelude.{◌⊎◌, nat_lt, ◌==◌}
 use Rattle.std.specs.List.{find, AllByRecursion}

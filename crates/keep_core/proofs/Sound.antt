@@ -1,4 +1,4 @@
--- What a device holds stands in order, and each bytes have the digest of their name.
+-- What a device holds stands in order, and each bytes have the digest of their name: `step-sound`.
 use Rattle.std.proofs.Common.{◌≡◌, ◌+◌, ℕ, List, [], ◌∷◌, refl, sym, ◌∙◌, ap, subst, Option, None, Some, option_map, is_some, max, inl, inr, filter, Less, Equal, Greater, Ordering}
 use Rattle.std.specs.Prelude.{◌⊎◌, nat_lt, ◌==◌, ◌-◌, length}
 use Rattle.std.specs.List.{find as list_find}

@@ -1,4 +1,4 @@
--- What each line of the device machine does to the kept round and to the trash list.
+-- What each line of the device machine does to the kept round and to the trash list: `step-moves`, `cleared-round`, `paged-holds`, `accepted-round`.
 use Rattle.std.proofs.Common.{◌≡◌, ◌≤◌, ◌+◌, ℕ, List, [], ◌∷◌, true, refl, sym, ◌∙◌, ap, subst, Option, None, Some, is_none, max, arith, inl, inr, map, filter}
 use Rattle.std.specs.Prelude.{◌⊎◌, nat_lt, ◌==◌, ◌-◌, length}
 use Rattle.std.specs.List.{find as list_find}

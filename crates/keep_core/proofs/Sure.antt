@@ -1,4 +1,4 @@
--- No line of the machine is a fault of its store.
+-- No line of the machine is a fault of its store: `step-sure`.
 use Rattle.std.proofs.Common.{◌≡◌, ◌+◌, ℕ, List, [], ◌∷◌, Bool, true, false, refl, Option, None, Some, max, if◌then◌else◌}
 use Rattle.std.specs.Prelude.{nat_lt, ◌==◌, ◌-◌, length}
 use Rattle.std.specs.List.{find as list_find}

@@ -1,4 +1,4 @@
--- What is known of the table after any allowed past: its records are the rows that are held, and its collections have the times that were set.
+-- What is known of the table after any past that may happen, its records are the rows that are held and its collections have the times that were set: `table-facts`.
 use Rattle.std.proofs.Common.{◌≡◌, ◌≤◌, ◌<◌, ◌+◌, ℕ, List, [], ◌∷◌, ◌++◌, map, filter, Bool, true, false, cond, not, ◌&&◌, refl, sym, ◌∙◌, ap, subst, Option, None, Some, is_none, arith, inl, inr, nat_eq, if◌then◌else◌}
 use Rattle.std.specs.Prelude.{◌⊎◌, nat_lt}
 use Rattle.std.specs.List.{find}

@@ -1,4 +1,4 @@
--- A manifest's text with its locators changed, each into a locator of the same block, names the same digests.
+-- A manifest's text with its locators changed, each into a locator of the same block, names the same digests: `same-digests`.
 use Rattle.std.proofs.Common.{◌≡◌, ◌≤◌, ◌<◌, ◌+◌, ℕ, zero, suc, List, [], ◌∷◌, ◌++◌, map, filter, take, drop, length, Bool, true, false, cond, not, ◌&&◌, ◌||◌, refl, sym, ◌∙◌, ap, subst, Option, None, Some, option_map, option_and_then, IsSome, codes, arith, nat_eq, eqb, eq-eqb, append_assoc, append-nil, if◌then◌else◌}
 use Rattle.std.specs.Prelude.{nat_lt, nat_le}
 use Rattle.std.specs.List.{list_all, prefix_len, slice_split, onto_first, join_with_byte, flat_map, AllByRecursion, concat}

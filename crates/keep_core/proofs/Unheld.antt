@@ -1,4 +1,4 @@
--- A past is safe exactly where no protected digest is unheld; the one that is found is the least.
+-- A past is safe exactly where no protected digest is unheld, and the one that is found is the least: `none-safe`, `safe-none`, `some-least`.
 use Rattle.std.proofs.Common.{◌≡◌, ℕ, List, [], ◌∷◌, length, Bool, true, false, not, ◌||◌, cond, refl, sym, ◌∙◌, ap, subst, Option, None, Some, arith, inl, inr, Less, Equal, Greater, Ordering}
 use Rattle.std.specs.Prelude.{◌⊎◌}
 use Rattle.std.specs.List.{find, list_any, AllByRecursion}

@@ -1,4 +1,4 @@
--- A digest without an item in a round's lists stays on each device that held it when the round's scans ended, while no round above has trashed.
+-- A digest without an item in a round's lists stays on each device that held it when the round's scans ended, while no round above has trashed: `unlisted-held`.
 use Rattle.std.proofs.Common.{◌≡◌, ◌≤◌, ◌<◌, ℕ, List, [], ◌∷◌, length, Bool, true, false, refl, sym, ◌∙◌, ap, subst, Option, None, Some, is_some, arith, inl, inr}
 use Rattle.std.specs.Prelude.{◌⊎◌}
 use Rattle.keep_spec.specs.Config.{Configuration}
