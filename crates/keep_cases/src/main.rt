@@ -20,6 +20,7 @@ mod pieces;
 mod plans;
 mod printed;
 mod runs;
+mod safety;
 mod signing;
 mod statuses;
 mod stores;

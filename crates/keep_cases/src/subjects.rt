@@ -2,8 +2,7 @@
 use crate::answer::Answer;
 use crate::book::Case;
 use crate::{
-    configurations, devices, indexes, lines, lists, locators, manifests, names, orders, packs,
-    plans, printed, runs, signing, statuses, tables, texts, wire, written,
+    configurations, devices, indexes, lines, lists, locators, manifests, names, orders, packs, plans, printed, runs, safety, signing, statuses, tables, texts, wire, written,
 };
 use std::alloc::Global;
 
@@ -32,6 +31,7 @@ pub fn answer_to(alloc: Global, subject: &str, case: &Case, answer: &mut Answer)
         "requests" => wire::answer(alloc, subject, case, answer),
         "responses" => wire::answer(alloc, subject, case, answer),
         "runs" => runs::answer(alloc, case, answer),
+        "safety" => safety::answer(alloc, case, answer),
         "signatures" => signing::answer_signatures(case, answer),
         "signed" => signing::answer_signed(alloc, case, answer),
         "sinks" => lines::answer_sink(alloc, case, answer),
