@@ -2,6 +2,7 @@
 #![tactic(auto)]
 
 mod files;
+mod histories;
 mod plans;
 mod wire;
 
@@ -257,6 +258,7 @@ fn main(rt: HostRuntime) -> Result<()> {
             "make-files" => files::make(&rt, &input)?,
             "pack" => files::pack(&rt, &input)?,
             "unpack" => files::pack_and_unpack(&rt, &input)?,
+            "histories" => histories::ask(&rt, &input)?,
             "gather" => plans::plan(&rt, &input, false)?,
             "plan" => plans::plan(&rt, &input, true)?,
             _ => println!(rt; "no task {task}")?,
