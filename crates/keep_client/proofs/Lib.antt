@@ -1,0 +1,4 @@
+pub mod Asked
+pub mod Heard
+pub mod Paths
+pub mod Told

@@ -1,0 +1,6 @@
+pub mod Exchanges
+pub mod Saying
+pub mod Asking
+pub mod Answers
+pub mod Steps
+pub mod Tallies
