@@ -4,6 +4,7 @@
 mod files;
 mod histories;
 mod plans;
+mod tables;
 mod wire;
 
 use anyhow::Result;
@@ -261,6 +262,7 @@ fn main(rt: HostRuntime) -> Result<()> {
             "histories" => histories::ask(&rt, &input)?,
             "gather" => plans::plan(&rt, &input, false)?,
             "plan" => plans::plan(&rt, &input, true)?,
+            "table" => tables::time_table(&rt, &input)?,
             _ => println!(rt; "no task {task}")?,
         }
     }

@@ -1,0 +1,137 @@
+#!/usr/bin/env python3
+"""Times the calls of the table of collections: that they grow no faster than by the height of a tree, and beside SQLite in memory.
+
+    bench/table.py PROGRAM [COLLECTIONS]
+
+PROGRAM is the built `keep_bench`. `keep_bench table` makes so many collections (1,000, 10,000 and so on up to COLLECTIONS,
+1,000,000 where none is said), updates, reads, trashes and restores each once, in a scattered order, asks what is wanted of each
+one's digest, and sweeps twice: once all superseded versions, and once all collections. The same statements run by Python's
+sqlite3 on a database in memory, with an index for each look-up, in one transaction. The median of three runs counts, of five
+below 100,000. What is printed is microseconds a call, a sweep's for each that went; each ratio is of the same run."""
+import sqlite3
+import statistics
+import struct
+import subprocess
+import sys
+import time
+
+STRIDE = 7919
+READING = 1700000000000000000
+LATER = 1800000000000000000
+GRACE = (1209600 + 2 * 5) * 10 ** 9
+TEXT = b". 00000000000000000000000000000000+3 0:3:foo\n"
+NAMES = ["save", "update", "read", "wanted", "trash", "restore", "sweep-versions", "trash-again", "sweep-collections"]
+MASK = 2 ** 64 - 1
+
+
+def digest_of(number):
+    return struct.pack(">QQ", (number * 0x9e3779b97f4a7c15 & MASK) ^ (number >> 7), number)
+
+
+def ours(program, count):
+    said = subprocess.run([program, "table"], input=b"%d" % count, stdout=subprocess.PIPE, check=True).stdout.decode()
+    figures = {}
+    for line in said.split("\n"):
+        if line:
+            name, done, nanos = line.split()
+            assert int(done) == count, line
+            figures[name] = int(nanos) / 1000
+    return figures
+
+
+class Base:
+    """The table as SQLite has it: a record's digest stands beside its want, the current record is the one without an end."""
+
+    def __init__(self):
+        self.base = sqlite3.connect(":memory:", isolation_level=None)
+        for statement in (
+            "CREATE TABLE collections (number INTEGER PRIMARY KEY, owner INTEGER, trash_at INTEGER, delete_at INTEGER)",
+            "CREATE TABLE records (revision INTEGER PRIMARY KEY, collection INTEGER, version INTEGER, want INTEGER, until INTEGER, text BLOB)",
+            "CREATE TABLE named (digest BLOB, want INTEGER, revision INTEGER)",
+            "CREATE INDEX by_collection ON records (collection, version)",
+            "CREATE INDEX by_until ON records (until)",
+            "CREATE INDEX by_digest ON named (digest, want)",
+            "CREATE INDEX by_revision ON named (revision)",
+            "CREATE INDEX by_delete ON collections (delete_at)",
+            "BEGIN",
+        ):
+            self.base.execute(statement)
+        self.revision = 0
+
+    def add(self, number, version, want):
+        self.revision += 1
+        self.base.execute("INSERT INTO records VALUES (?, ?, ?, ?, NULL, ?)", (self.revision, number, version, want, TEXT))
+        self.base.execute("INSERT INTO named VALUES (?, ?, ?)", (digest_of(number), want, self.revision))
+
+    def save(self, number):
+        self.base.execute("INSERT INTO collections VALUES (?, 0, NULL, NULL)", (number,))
+        self.add(number, 1, 1)
+
+    def update(self, number):
+        trash_at, = self.base.execute("SELECT trash_at FROM collections WHERE number = ?", (number,)).fetchone()
+        assert trash_at is None
+        held, = self.base.execute("SELECT count(*) FROM records WHERE collection = ? AND until >= ?", (number, READING)).fetchone()
+        assert held < 4
+        version, = self.base.execute("SELECT version FROM records WHERE collection = ? AND until IS NULL", (number,)).fetchone()
+        self.base.execute("DELETE FROM records WHERE collection = ? AND until < ?", (number, READING))
+        self.base.execute("UPDATE records SET until = ? WHERE collection = ? AND until IS NULL", (READING + GRACE, number))
+        self.add(number, version + 1, 2)
+
+    def read(self, number):
+        self.base.execute(
+            "SELECT version, want, text, trash_at FROM records JOIN collections ON number = collection WHERE collection = ? AND until IS NULL", (number,)
+        ).fetchone()
+
+    def wanted(self, number):
+        want, = self.base.execute("SELECT max(want) FROM named WHERE digest = ?", (digest_of(number),)).fetchone()
+        assert want == 2
+
+    def trash(self, number):
+        self.base.execute("UPDATE collections SET trash_at = ?, delete_at = ? WHERE number = ?", (READING, READING + GRACE, number))
+
+    def restore(self, number):
+        self.base.execute("UPDATE collections SET trash_at = NULL, delete_at = NULL WHERE number = ?", (number,))
+
+    def sweep_versions(self):
+        self.base.execute("DELETE FROM named WHERE revision IN (SELECT revision FROM records WHERE until < ?)", (LATER,))
+        self.base.execute("DELETE FROM records WHERE until < ?", (LATER,))
+
+    def sweep_collections(self):
+        self.base.execute(
+            "DELETE FROM named WHERE revision IN (SELECT revision FROM records JOIN collections ON number = collection WHERE delete_at < ?)", (LATER,))
+        self.base.execute("DELETE FROM records WHERE collection IN (SELECT number FROM collections WHERE delete_at < ?)", (LATER,))
+        self.base.execute("DELETE FROM collections WHERE delete_at < ?", (LATER,))
+
+
+def theirs(count):
+    base, figures = Base(), {}
+    for name in NAMES:
+        start = time.monotonic()
+        if name == "save":
+            for number in range(1, count + 1):
+                base.save(number)
+        elif name.startswith("sweep"):
+            getattr(base, name.replace("-", "_"))()
+        else:
+            call = getattr(base, name.split("-")[0])
+            for index in range(count):
+                call(index * STRIDE % count + 1)
+        figures[name] = (time.monotonic() - start) * 10 ** 6 / count
+    return figures
+
+
+def main():
+    program, most = sys.argv[1], int(sys.argv[2]) if len(sys.argv) > 2 else 1000000
+    count = 1000
+    while count <= most:
+        runs = [(ours(program, count), theirs(count)) for _ in range(3 if count >= 100000 else 5)]
+        for name in NAMES:
+            if name != "trash-again":
+                mine, other = (statistics.median(run[side][name] for run in runs) for side in (0, 1))
+                ratio = statistics.median(run[0][name] / run[1][name] for run in runs)
+                print("%8d %-18s %8.2f us, sqlite3 %8.2f us: %.2f times" % (count, name, mine, other, ratio), flush=True)
+        count *= 10
+
+
+if __name__ == "__main__":
+    main()

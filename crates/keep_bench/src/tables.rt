@@ -1,0 +1,170 @@
+// The table of collections: so many of them as the input says, and each kind of call once for each, timed.
+ghost use Rattle.std.specs.Prelude.{◌≤◌, ◌*◌, ◌^◌, ◌<◌};
+
+use anyhow::Result;
+use keep_event::{NewRecord, TableAnswer, TableRules};
+use keep_spec::{Bytes, Digest, Items, NoMemory, Portable, TokenId};
+use keep_table::Table;
+use std::alloc::Global;
+use std::str::from_utf8;
+use std::time::Instant;
+
+const RULES: TableRules = TableRules {
+    tokens: 1,
+    versions: 4,
+    ttl: 1_209_600,
+    skew: 5,
+};
+
+// The system's token, so that each collection can be asked by it.
+const TOKEN: TokenId = TokenId { number: 0 };
+
+const READING: u64 = 1_700_000_000_000_000_000;
+
+// After all that was superseded or went to the trash at the reading.
+const LATER: u64 = 1_800_000_000_000_000_000;
+
+#[derive(Clone, Copy)]
+enum Kind {
+    Save,
+    Update,
+    Read,
+    Wanted,
+    Trash,
+    Restore,
+}
+
+// The 16 bytes of a number's own digest, scattered.
+fn digest_of(number: u64) -> Digest {
+    let mixed = number.wrapping_mul(0x9e37_79b9_7f4a_7c15) ^ (number >> 7);
+    let mut bytes = [0; 16];
+    bytes[..8].copy_from_slice(&mixed.to_be_bytes());
+    bytes[8..].copy_from_slice(&number.to_be_bytes());
+    Digest::of_md5(bytes)
+}
+
+// What a save or an update makes a record of: one block, named by the number.
+fn made(alloc: Global, number: u64, want: u8) -> std::result::Result<NewRecord, NoMemory> {
+    let digest = digest_of(number);
+    let Ok(text) = Vec::from_slice(
+        alloc,
+        b". 00000000000000000000000000000000+3 0:3:foo\n",
+    ) else {
+        return Err(NoMemory);
+    };
+    let Ok(named) = Vec::from_slice(alloc, &[digest]) else {
+        return Err(NoMemory);
+    };
+    let portable = Portable { digest, size: 45 };
+    Ok(NewRecord {
+        text: Bytes::of(text),
+        named: Items::of(named),
+        portable,
+        want,
+    })
+}
+
+// One call about the collection with a number; whether it was done.
+fn is_done(alloc: Global, table: &mut Table, kind: Kind, number: u64) -> bool {
+    if !table.has_room() {
+        return false;
+    }
+    match kind {
+        Kind::Save | Kind::Update => is_stored(alloc, table, kind, number),
+        Kind::Read => matches!(
+            table.read(READING, TOKEN, number, None),
+            Ok(TableAnswer::Row { .. })
+        ),
+        Kind::Wanted => table.wanted(&digest_of(number)) == 2,
+        Kind::Trash => matches!(
+            table.set_trash(READING, TOKEN, number, READING, READING),
+            Ok(TableAnswer::TrashSet { .. })
+        ),
+        Kind::Restore => matches!(
+            table.restore(READING, TOKEN, number),
+            Ok(TableAnswer::Restored)
+        ),
+    }
+}
+
+fn is_stored(alloc: Global, table: &mut Table, kind: Kind, number: u64) -> bool {
+    if !table.has_room() {
+        return false;
+    }
+    match kind {
+        Kind::Save => {
+            let Ok(record) = made(alloc, number, 1) else {
+                return false;
+            };
+            matches!(
+                table.create(TOKEN, record),
+                Ok(TableAnswer::Saved { .. })
+            )
+        }
+        _ => {
+            let Ok(record) = made(alloc, number, 2) else {
+                return false;
+            };
+            matches!(
+                table.update(READING, TOKEN, number, record, false),
+                Ok(TableAnswer::Updated { .. })
+            )
+        }
+    }
+}
+
+// One call of a kind for each collection, in a scattered order but for saves; prints how many were done, and the nanoseconds of each.
+fn time_calls(rt: &HostRuntime, table: &mut Table, name: &str, kind: Kind, count: u64) -> Result<()> {
+    let mut done: u64 = 0;
+    let start = Instant::now(rt)?;
+    for index in 0..count {
+        let number = match kind {
+            Kind::Save => index,
+            _ => index.wrapping_mul(7919).checked_rem(count).unwrap_or(0),
+        };
+        if is_done(rt.alloc(), table, kind, number.saturating_add(1)) {
+            done = done.saturating_add(1);
+        }
+    }
+    let nanos = start.elapsed(rt)?.as_nanos().checked_div(u128::from(count)).unwrap_or(0);
+    println!(rt; "{name} {done} {nanos}")?;
+    Ok(())
+}
+
+fn time_sweep(rt: &HostRuntime, table: &mut Table, name: &str) -> Result<()> {
+    let start = Instant::now(rt)?;
+    let answer = table.sweep(LATER);
+    let nanos = start.elapsed(rt)?.as_nanos();
+    match answer {
+        Ok(TableAnswer::Swept {
+            versions,
+            collections,
+        }) => {
+            let done = versions.saturating_add(collections);
+            let each = nanos.checked_div(u128::from(done)).unwrap_or(0);
+            println!(rt; "{name} {done} {each}")?;
+        }
+        _ => println!(rt; "{name} no memory")?,
+    }
+    Ok(())
+}
+
+/// Times each kind of call on a table with so many collections, each of two records.
+pub fn time_table(rt: &HostRuntime, input: &[u8]) -> Result<()> {
+    let count = from_utf8(input)
+        .unwrap_or("")
+        .trim()
+        .parse::<u64>()
+        .unwrap_or(0);
+    let mut table = Table::new(rt.alloc(), RULES);
+    time_calls(rt, &mut table, "save", Kind::Save, count)?;
+    time_calls(rt, &mut table, "update", Kind::Update, count)?;
+    time_calls(rt, &mut table, "read", Kind::Read, count)?;
+    time_calls(rt, &mut table, "wanted", Kind::Wanted, count)?;
+    time_calls(rt, &mut table, "trash", Kind::Trash, count)?;
+    time_calls(rt, &mut table, "restore", Kind::Restore, count)?;
+    time_sweep(rt, &mut table, "sweep-versions")?;
+    time_calls(rt, &mut table, "trash-again", Kind::Trash, count)?;
+    time_sweep(rt, &mut table, "sweep-collections")?;
+    Ok(())
+}
