@@ -49,25 +49,26 @@ fn answer_history(
         }
         answer.end();
     }
-    answer_safe(alloc, config, &events, answer)
+    answer_safe(alloc, config, &events, answer);
+    Ok(())
 }
 
-fn answer_safe(
-    alloc: Global,
-    config: &Config,
-    events: &[Event],
-    answer: &mut Answer,
-) -> Result<(), OutOfMemory> {
+fn answer_safe(alloc: Global, config: &Config, events: &[Event], answer: &mut Answer) {
     match safe_at(alloc, config, events) {
         Ok(()) => answer.value(b"safe"),
-        Err(Unsafe::Unheld { digest }) => {
+        Err(error) => answer_unsafe(error, answer),
+    }
+}
+
+fn answer_unsafe(error: Unsafe, answer: &mut Answer) {
+    match error {
+        Unsafe::Unheld { digest } => {
             answer.text(b"unheld ");
             answer.text(&digest.write());
             answer.end();
         }
-        Err(Unsafe::NoMemory) => return Err(OutOfMemory),
+        Unsafe::NoMemory => answer.cut(),
     }
-    Ok(())
 }
 
 // The words of a line that are left.
