@@ -10,6 +10,7 @@ mod link;
 mod look;
 mod put;
 mod requests;
+mod tcp;
 
 pub use error::ClientError;
 pub use get::get_block;
@@ -20,3 +21,4 @@ pub use keep_wire::Response;
 pub use link::{Exchange, Link};
 pub use look::Said;
 pub use put::{PutDone, put_block};
+pub use tcp::TcpLink;
