@@ -17,7 +17,7 @@ pub struct TableRules {
 /// What a record is to its collection.
 #[derive(Clone, Copy, Debug, PartialEq, Eq)]
 pub enum Standing {
-    /// The newest version, which reads and scans give. A collection has at most one.
+    /// The newest version, which a read gives where it asks for none. A collection has at most one.
     Current,
     /// An older version that can't be read; it is due at a reading above `until` (nanoseconds since 1970).
     Kept { until: u64 },
@@ -161,7 +161,8 @@ pub enum TableAnswer {
         trash_at: Option<u64>,
         text: Bytes,
     },
-    /// The times that were set. `delete_at` is raised, if needed, past the expiry of every signature that a read has issued.
+    /// The times that were set. `delete_at` is raised, if needed, past the expiry of every signature that a read has issued, where readings go back by no more
+    /// than the skew.
     TrashSet {
         trash_at: u64,
         delete_at: u64,
