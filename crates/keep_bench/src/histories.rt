@@ -72,40 +72,51 @@ fn swept() -> (Query, Answer) {
     (Query::Table(TableQuery::Sweep), Answer::Table(answer))
 }
 
-fn saved(alloc: Global, tick: u64) -> Result<Option<(Query, Answer)>> {
-    let before = tick.saturating_sub(1);
-    let Some(block) = block_of(alloc, before)? else {
-        return Ok(None);
-    };
-    let request = request_of(alloc, &block.digest())?;
-    let number = (tick / 3) % 100;
+// The collection that an event saves.
+fn number_at(tick: u64) -> u64 {
+    (tick / 3) % 100
+}
+
+fn save_query(tick: u64, request: SaveRequest) -> TableQuery {
+    if tick < 300 {
+        return TableQuery::Save { request };
+    }
+    TableQuery::Update {
+        collection: number_at(tick),
+        preserve: tick % 2 == 0,
+        request,
+    }
+}
+
+fn save_answer(tick: u64) -> TableAnswer {
+    let number = number_at(tick);
     let portable = Portable {
         digest: Digest::of_md5([0; 16]),
         size: 0,
     };
-    let query = if tick < 300 {
-        TableQuery::Save { request }
-    } else {
-        TableQuery::Update {
-            collection: number,
-            preserve: tick % 2 == 0,
-            request,
-        }
-    };
-    let answer = if tick < 300 {
-        TableAnswer::Saved {
+    if tick < 300 {
+        return TableAnswer::Saved {
             number,
             version: 1,
             portable,
-        }
-    } else {
-        TableAnswer::Updated {
-            number,
-            version: 2,
-            portable,
-        }
+        };
+    }
+    TableAnswer::Updated {
+        number,
+        version: 2,
+        portable,
+    }
+}
+
+fn saved(alloc: Global, tick: u64) -> Result<Option<(Query, Answer)>> {
+    let Some(block) = block_of(alloc, tick.saturating_sub(1))? else {
+        return Ok(None);
     };
-    Ok(Some((Query::Table(query), Answer::Table(answer))))
+    let request = request_of(alloc, &block.digest())?;
+    Ok(Some((
+        Query::Table(save_query(tick, request)),
+        Answer::Table(save_answer(tick)),
+    )))
 }
 
 fn request_of(alloc: Global, digest: &Digest) -> Result<SaveRequest> {
