@@ -1,5 +1,5 @@
 -- What is left when the digests of device after device are taken away (`lacks-next`), its first (`first-left`), and what that says of a past (`judged`, `never-unheld`).
-use Rattle.std.proofs.Common.{◌≡◌, ◌+◌, ℕ, zero, suc, List, [], ◌∷◌, ◌++◌, filter, not, ◌||◌, ◌&&◌, Bool, true, false, cond, Result, Ok, Err, Option, None, Some, refl, sym, ◌∙◌, ap, subst, slice_get, arith}
+use Rattle.std.proofs.Common.{◌≡◌, ◌+◌, ℕ, suc, List, [], ◌∷◌, filter, not, ◌||◌, ◌&&◌, Bool, true, false, cond, Result, Ok, Err, Some, refl, sym, ◌∙◌, ap, slice_get, arith}
 use Rattle.std.specs.List.{find, list_any}
 use Rattle.std.proofs.lemmas.List.Folds.{list_any-append}
 use Rattle.keep_spec.specs.Config.{Configuration}

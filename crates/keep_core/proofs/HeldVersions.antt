@@ -1,5 +1,5 @@
 -- The versions as the code keeps them are those of the definition: `versions-next`.
-use Rattle.std.proofs.Common.{◌≡◌, ℕ, List, [], ◌∷◌, ◌++◌, map, filter, Bool, true, false, cond, not, ◌&&◌, refl, sym, ◌∙◌, ap, Option, None, Some, is_none, nat_eq, if◌then◌else◌}
+use Rattle.std.proofs.Common.{◌≡◌, ℕ, List, [], ◌∷◌, ◌++◌, map, filter, Bool, true, false, cond, not, ◌&&◌, refl, sym, ◌∙◌, ap, Option, Some, is_none, nat_eq, if◌then◌else◌}
 use Rattle.keep_spec.specs.Config.{Configuration}
 use Rattle.keep_event.specs.Requests.{digests_of}
 use Rattle.keep_event.specs.declared.device.DeviceAnswer.{DeviceAnswer}
@@ -7,16 +7,14 @@ use Rattle.keep_event.specs.declared.table.TableQuery.{TableQuery}
 use Rattle.keep_event.specs.declared.table.TableQuery.TheVariants as TQ
 use Rattle.keep_event.specs.declared.table.TableAnswer.{TableAnswer}
 use Rattle.keep_event.specs.declared.table.TableAnswer.TheVariants as T
-use Rattle.keep_event.specs.declared.event.Event.{Event}
 use Rattle.keep_event.specs.declared.event.Query.{Query}
 use Rattle.keep_event.specs.declared.event.Query.TheVariants as Q
 use Rattle.keep_event.specs.declared.event.Answer.{Answer}
 use Rattle.keep_event.specs.declared.event.Answer.TheVariants as A
 use Rattle.keep_core.specs.declared.held.Version.{Version}
-use Rattle.keep_core.specs.declared.held.Superseded.{Superseded}
 use Rattle.keep_core.specs.Past.{Past}
-use Rattle.keep_core.specs.Rows.{Row, rows, delete_at, rows_after, superseded_by, stays_at_update, stays_at_sweep, is_past, is_over}
-use Rattle.keep_core.specs.Seen.{version_of, superseded, stays, updated, outlives, new_version, versions_after}
+use Rattle.keep_core.specs.Rows.{Row, delete_at, rows_after, superseded_by, stays_at_update, stays_at_sweep, is_past, is_over}
+use Rattle.keep_core.specs.Seen.{version_of, superseded, stays, outlives, new_version, versions_after}
 
 map-append : {X Y : Type 0} (f : X → Y) (xs ys : List X) → map f (xs ++ ys) ≡ map f xs ++ map f ys
 map-append f [] ys = refl

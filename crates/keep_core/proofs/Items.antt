@@ -1,5 +1,5 @@
 -- What the plan of a round says of a trash item: it names a gathered holder that isn't kept, with its gathered time, which is below the threshold (`item-is`).
-use Rattle.std.proofs.Common.{◌≡◌, ℕ, List, map, refl, sym, ◌∙◌, ap, subst}
+use Rattle.std.proofs.Common.{◌≡◌, ℕ, List, map, sym, ◌∙◌, ap, subst}
 use Rattle.keep_spec.specs.Config.{Configuration}
 use Rattle.keep_spec.specs.Members.{IsIn}
 use Rattle.keep_event.specs.Plan.{Gathered, trash_list}

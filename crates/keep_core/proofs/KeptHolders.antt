@@ -1,5 +1,5 @@
 -- What the plan of a round says of the holders that it keeps of a digest: they are distinct devices of the configuration, each of which gave the digest (`kept-gave`, `kept-distinct`), and where an item names the digest, as many as the gathered rows want (`kept-enough`).
-use Rattle.std.proofs.Common.{◌≡◌, ◌≤◌, ◌<◌, ℕ, List, length}
+use Rattle.std.proofs.Common.{◌≤◌, ◌<◌, ℕ, List, length}
 use Rattle.keep_spec.specs.Config.{Configuration}
 use Rattle.keep_spec.specs.Members.{IsIn, AreDistinct}
 use Rattle.keep_event.specs.Plan.{trash_list, wanted_in, gathered_rows, kept, holding}

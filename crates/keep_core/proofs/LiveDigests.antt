@@ -1,6 +1,6 @@
 -- The digests of held versions (`named_as`) and of live signatures (`live-as`), event by event; that the protected digests are theirs, in any order (`to-protected`, `from-protected`); members of two kinds (`in-contains`, `contains-in`).
 use Rattle.std.proofs.Common.{◌≡◌, ◌≤◌, ℕ, zero, suc, List, [], ◌∷◌, ◌++◌, map, filter, length, reverse, take, Bool, true, false, cond, ◌&&◌, refl, sym, ◌∙◌, ap, subst, arith, inl, inr, Option, None, Some, is_some}
-use Rattle.std.specs.Prelude.{◌⊎◌, nat_le}
+use Rattle.std.specs.Prelude.{◌⊎◌}
 use Rattle.std.specs.List.{flat_map, Contains}
 use Rattle.std.proofs.lemmas.List.{reverse-append, reverse-reverse, map-append}
 use Rattle.std.proofs.lemmas.List.Elements.{filter-append, Contains-append_left, Contains-append_right, Contains-append_cases, Contains-push_cases, Contains-push}
@@ -9,7 +9,6 @@ use Rattle.keep_spec.specs.Members.{IsIn}
 use Rattle.keep_spec.specs.Times.{expiry_at}
 use Rattle.keep_spec.specs.declared.token.TokenId.{TokenId}
 use Rattle.keep_event.specs.Requests.{digests_of}
-use Rattle.keep_event.specs.declared.device.DeviceQuery.{DeviceQuery}
 use Rattle.keep_event.specs.declared.device.DeviceAnswer.{DeviceAnswer}
 use Rattle.keep_event.specs.declared.table.TableQuery.{TableQuery}
 use Rattle.keep_event.specs.declared.table.TableQuery.TheVariants as TQ

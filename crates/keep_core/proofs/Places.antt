@@ -1,5 +1,5 @@
 -- An event is a line of a device, a fault of its store, or happens elsewhere: `by-place`; a device has the configuration's grace: `grace-at`.
-use Rattle.std.proofs.Common.{◌≡◌, ◌<◌, ◌+◌, ℕ, zero, suc, Bool, true, false, List, [], ◌∷◌, Option, None, Some, slice_get, refl, sym, ◌∙◌, ap, subst, arith, length, inl, inr, nat_eq, eq-eqb, ne_eqb, if◌then◌else◌}
+use Rattle.std.proofs.Common.{◌≡◌, ◌<◌, ℕ, zero, suc, Bool, true, false, List, [], ◌∷◌, Option, None, Some, slice_get, refl, sym, ◌∙◌, ap, subst, arith, length, inl, inr, nat_eq, eq-eqb, ne_eqb, if◌then◌else◌}
 use Rattle.std.proofs.lemmas.Bool.{cases_eq}
 use Rattle.keep_spec.specs.Config.{Configuration}
 use Rattle.keep_event.specs.Device as machine

@@ -38,7 +38,7 @@ use Rattle.keep_core.proofs.Accepted.{WasSigned, IsAccepted, accepted-row}
 use Rattle.keep_core.proofs.AfterScan.{IsNamed, named-of, of-named, IsLate, AskedOrLate, after-scan, asked-stays}
 use Rattle.keep_core.proofs.Begun.{ended-allowed, has-ended}
 use Rattle.keep_core.proofs.Devices.{device-facts, trashed-round}
-use Rattle.keep_core.proofs.Kept.{was-cleared, round_now, listed-now, threshold_now, item-now, none-above, kept-held, enough-kept, copies-left}
+use Rattle.keep_core.proofs.Kept.{was-cleared, round_now, listed-now, item-now, none-above, kept-held, enough-kept, copies-left}
 use Rattle.keep_core.proofs.Lines.{Goes, Does, step-does}
 use Rattle.keep_order.proofs.Lists.{in-map, in-filter, in-either}
 use Rattle.keep_core.proofs.Made.{rows-made}

@@ -1,9 +1,7 @@
 -- What has happened so far, and what it leaves at each place.
 -- A past is a list of events, the latest first. So the pasts that led to it are its tails, and a definition over all that happened is a recursion on the list.
-use Rattle.std.specs.Prelude.{◌≡◌, ◌⊎◌, ◌<◌, ℕ, ◌==◌, List, [], ◌∷◌, length, Bool, true, false, slice_get, if◌then◌else◌}
-use Rattle.std.specs.Option.{option_map_or}
+use Rattle.std.specs.Prelude.{◌≡◌, ◌⊎◌, ◌<◌, ℕ, ◌==◌, List, [], ◌∷◌, length, Bool, true, false, if◌then◌else◌}
 use Rattle.keep_spec.specs.Config.{Configuration}
-use Rattle.keep_spec.specs.Times.{grace}
 use Rattle.keep_event.specs.Device as devices
 use Rattle.keep_event.specs.Table as tables
 use Rattle.keep_event.specs.Requests.{table_line}

@@ -1,6 +1,6 @@
 -- What a round gathered, and the order of its events.
-use Rattle.std.specs.Prelude.{◌≡◌, ◌≤◌, ◌<◌, ℕ, zero, suc, ◌==◌, List, [], ◌∷◌, ◌++◌, length, map, count_by, Bool, true, false, Option, None, Some, unwrap_or, ⊤, if◌then◌else◌}
-use Rattle.std.specs.List.{AllByRecursion, last_or, flat_map}
+use Rattle.std.specs.Prelude.{◌≡◌, ◌≤◌, ◌<◌, ℕ, zero, suc, ◌==◌, List, [], ◌∷◌, ◌++◌, length, map, count_by, Bool, true, false, Option, None, Some, ⊤, if◌then◌else◌}
+use Rattle.std.specs.List.{AllByRecursion, flat_map}
 use Rattle.std.specs.Str.{bytes_eq}
 use Rattle.keep_spec.specs.Config.{Configuration}
 use Rattle.keep_event.specs.declared.device.DeviceQuery.{DeviceQuery}

@@ -1,5 +1,5 @@
 -- The versions of collections that are held, by what was saved, updated, trashed, restored and swept.
-use Rattle.std.specs.Prelude.{ℕ, ◌+◌, ◌==◌, ◌&&◌, nat_lt, not, max, List, [], ◌∷◌, ◌++◌, map, filter, Bool, true, false, Option, None, Some, is_none, if◌then◌else◌}
+use Rattle.std.specs.Prelude.{ℕ, ◌+◌, ◌==◌, ◌&&◌, nat_lt, not, List, [], ◌∷◌, ◌++◌, map, filter, Bool, true, false, Option, None, Some, is_none, if◌then◌else◌}
 use Rattle.std.specs.Option.{option_map_or}
 use Rattle.std.specs.List.{flat_map}
 use Rattle.keep_spec.specs.Config.{Configuration}

@@ -1,4 +1,3 @@
-use Rattle.std.proofs.Common.{◌≡◌}
 use Rattle.keep_spec.specs.Manifest.{named}
 use Rattle.keep_collections.proofs.Ascending.{is-ascending}
 use Rattle.keep_core.proofs.digests.digests_of.Goals as goal

@@ -1,11 +1,10 @@
-use Rattle.std.proofs.Common.{◌≡◌, ℕ, Option, map, take, reverse, refl, sym, ap, subst, ◌∙◌}
+use Rattle.std.proofs.Common.{ℕ, Option, map, take, reverse, sym, ap, ◌∙◌}
 use Rattle.std.specs.BTreeMap.{get}
 use Rattle.std.specs.Ordering.{nat_cmp}
 use Rattle.keep_core.specs.Rows.{rows, delete_at, deleted_by}
 use Rattle.keep_core.specs.Seen.{version_of, versions_after}
 use Rattle.keep_core.proofs.HeldVersions.{versions-next}
 use Rattle.keep_core.proofs.Reversed.{past-next}
-use Rattle.keep_core.proofs.held.versions.Invariants.{Invariant}
 use Rattle.keep_core.proofs.held.versions.Goals as goal
 
 pub loop-event-preserved : goal.loop-event-preserved

@@ -1,5 +1,5 @@
-use Rattle.std.proofs.Common.{◌≡◌, reverse, not, ap, ◌∙◌, sym, subst, slice_get}
-use Rattle.keep_core.specs.Judged.{IsJudged, is_first}
+use Rattle.std.proofs.Common.{reverse, not, ap, ◌∙◌, sym, subst, slice_get}
+use Rattle.keep_core.specs.Judged.{is_first}
 use Rattle.keep_core.specs.Unheld.{is_held, protected_digests}
 use Rattle.keep_core.proofs.HeldNowhere.{first-left, judged, never-unheld}
 use Rattle.keep_core.proofs.judging.safe_at.Goals as goal

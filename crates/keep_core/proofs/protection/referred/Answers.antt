@@ -1,4 +1,4 @@
-use Rattle.std.proofs.Common.{◌≡◌, reverse, map, ap, ◌∙◌, arith}
+use Rattle.std.proofs.Common.{reverse, ap, ◌∙◌, arith}
 use Rattle.keep_core.specs.Rows.{rows}
 use Rattle.keep_core.specs.Seen.{named_by}
 use Rattle.keep_core.proofs.LiveDigests.{whole, named_as}
