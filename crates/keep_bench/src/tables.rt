@@ -46,10 +46,7 @@ fn digest_of(number: u64) -> Digest {
 // What a save or an update makes a record of: one block, named by the number.
 fn made(alloc: Global, number: u64, want: u8) -> std::result::Result<NewRecord, NoMemory> {
     let digest = digest_of(number);
-    let Ok(text) = Vec::from_slice(
-        alloc,
-        b". 00000000000000000000000000000000+3 0:3:foo\n",
-    ) else {
+    let Ok(text) = Vec::from_slice(alloc, b". 00000000000000000000000000000000+3 0:3:foo\n") else {
         return Err(NoMemory);
     };
     let Ok(named) = Vec::from_slice(alloc, &[digest]) else {
@@ -96,10 +93,7 @@ fn is_stored(alloc: Global, table: &mut Table, kind: Kind, number: u64) -> bool 
             let Ok(record) = made(alloc, number, 1) else {
                 return false;
             };
-            matches!(
-                table.create(TOKEN, record),
-                Ok(TableAnswer::Saved { .. })
-            )
+            matches!(table.create(TOKEN, record), Ok(TableAnswer::Saved { .. }))
         }
         _ => {
             let Ok(record) = made(alloc, number, 2) else {
@@ -114,7 +108,13 @@ fn is_stored(alloc: Global, table: &mut Table, kind: Kind, number: u64) -> bool 
 }
 
 // One call of a kind for each collection, in a scattered order but for saves; prints how many were done, and the nanoseconds of each.
-fn time_calls(rt: &HostRuntime, table: &mut Table, name: &str, kind: Kind, count: u64) -> Result<()> {
+fn time_calls(
+    rt: &HostRuntime,
+    table: &mut Table,
+    name: &str,
+    kind: Kind,
+    count: u64,
+) -> Result<()> {
     let mut done: u64 = 0;
     let start = Instant::now(rt)?;
     for index in 0..count {
@@ -126,7 +126,11 @@ fn time_calls(rt: &HostRuntime, table: &mut Table, name: &str, kind: Kind, count
             done = done.saturating_add(1);
         }
     }
-    let nanos = start.elapsed(rt)?.as_nanos().checked_div(u128::from(count)).unwrap_or(0);
+    let nanos = start
+        .elapsed(rt)?
+        .as_nanos()
+        .checked_div(u128::from(count))
+        .unwrap_or(0);
     println!(rt; "{name} {done} {nanos}")?;
     Ok(())
 }
@@ -136,10 +140,12 @@ fn time_sweep(rt: &HostRuntime, table: &mut Table, name: &str) -> Result<()> {
     let answer = table.sweep(LATER);
     let nanos = start.elapsed(rt)?.as_nanos();
     match answer {
-        Ok(TableAnswer::Swept {
-            versions,
-            collections,
-        }) => {
+        Ok(
+            TableAnswer::Swept {
+                versions,
+                collections,
+            },
+        ) => {
             let done = versions.saturating_add(collections);
             let each = nanos.checked_div(u128::from(done)).unwrap_or(0);
             println!(rt; "{name} {done} {each}")?;
