@@ -146,7 +146,8 @@ fn block_of(alloc: Global, word: &str) -> Result<Option<Block>, OutOfMemory> {
     }
 }
 
-fn digest_of(alloc: Global, word: &str) -> Result<Option<Digest>, OutOfMemory> {
+/// The digest of a block.
+pub fn digest_of(alloc: Global, word: &str) -> Result<Option<Digest>, OutOfMemory> {
     Ok(block_of(alloc, word)?.map(|block| block.digest()))
 }
 

@@ -26,6 +26,7 @@ mod statuses;
 mod stores;
 mod subjects;
 mod tables;
+mod tasks;
 mod texts;
 mod wire;
 mod written;

@@ -2,8 +2,7 @@
 use crate::answer::Answer;
 use crate::book::Case;
 use crate::{
-    configurations, devices, indexes, lines, lists, locators, manifests, names, orders, packs,
-    plans, printed, runs, safety, signing, statuses, tables, texts, wire, written,
+    configurations, devices, indexes, lines, lists, locators, manifests, names, orders, packs, plans, printed, runs, safety, signing, statuses, tables, tasks, texts, wire, written,
 };
 use std::alloc::Global;
 
@@ -38,6 +37,7 @@ pub fn answer_to(alloc: Global, subject: &str, case: &Case, answer: &mut Answer)
         "sinks" => lines::answer_sink(alloc, case, answer),
         "statuses" => statuses::answer(alloc, case, answer),
         "tables" => tables::answer(alloc, case, answer),
+        "tasks" => tasks::answer(alloc, case, answer),
         "unpacks" => packs::answer_manifest(alloc, case, answer),
         "uuids" => texts::answer(subject, case, answer),
         "verdicts" => signing::answer_verdicts(case, answer),

@@ -102,7 +102,8 @@ impl<'a> Words<'a> {
     }
 }
 
-fn query_of(alloc: Global, asked: &str) -> Result<Option<TableQuery>, OutOfMemory>
+/// The query of a line.
+pub fn query_of(alloc: Global, asked: &str) -> Result<Option<TableQuery>, OutOfMemory>
     ensures { IfOk result (λ o. IfSome o MayAskTable) }
 {
     let mut words = Words { rest: asked };
