@@ -1,1 +1,1 @@
-mod Devices
+mod Volumes

@@ -1,4 +1,4 @@
-use Rattle.std.proofs.Common.{◌≡◌, ◌×◌}
+use Rattle.std.proofs.Common.{◌≡◌}
 use Rattle.keep_cases.proofs.tasks.go_on.Given as goal
 
 abbrev pub invariant-loop : goal.invariant-loop

@@ -1,0 +1,7 @@
+use Rattle.keep_tasks.specs.Kinds.{IsPut, ArePut}
+use Rattle.keep_tasks.proofs.Opens.{may-ask}
+use Rattle.keep_cases.proofs.tasks.answer_put.Goals as goal
+
+pub go_on-requires : goal.go_on-requires
+go_on-requires g c =
+    may-ask (λ t. t.ended) (λ t. IsPut t.walk t.locator t.writes) (λ t n. ArePut n t.walk t.writes) c.args.config.now _ c.in-Task.task _ (rw c.in-Task.is at (c.in_ok-task.ensures.opened 0)) c.requires.devices
