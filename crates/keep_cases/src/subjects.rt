@@ -2,7 +2,8 @@
 use crate::answer::Answer;
 use crate::book::Case;
 use crate::{
-    configurations, devices, indexes, lines, lists, locators, manifests, names, orders, packs, plans, printed, runs, safety, signing, statuses, tables, tasks, texts, wire, written,
+    configurations, devices, indexes, lines, lists, locators, manifests, names, orders, packs,
+    plans, printed, runs, safety, signing, statuses, tables, tasks, texts, wire, written,
 };
 use std::alloc::Global;
 
