@@ -3,7 +3,5 @@
 
 mod asking;
 mod cluster;
-#[cfg(test)]
-mod tests;
 
 pub use cluster::{Cluster, device_rules};

@@ -24,7 +24,7 @@ use Rattle.keep_event.specs.declared.event.Query.TheVariants as Q
 use Rattle.keep_event.specs.declared.event.Answer.{Answer}
 use Rattle.keep_event.specs.declared.event.Answer.TheVariants as A
 use Rattle.keep_table.specs.Contents.{AreOrderly, AreDrawn}
-use Rattle.keep_table.proofs.Orderly.{orderly-created, orderly-filter, orderly-updated, collections-created, collections-filter, collections-map}
+use Rattle.keep_table.proofs.Orderly.{orderly-created, orderly-filter, orderly-updated, outlasts-together, update-keeps-current, collections-created, collections-filter, collections-map}
 use Rattle.keep_table.proofs.Updates.{kept-not-current}
 use Rattle.keep_table.proofs.Versions.{version-le}
 use Rattle.keep_core.specs.Allowed.{IsAllowed}
@@ -224,7 +224,7 @@ module _ (c : Configuration) (past : Past) (reading : ℕ) where
           ∙ ap (λ n. map (record_of c) rs ++ new_record (t.numbers + 1) 1 (n + 1) (made_of request) ∷ []) f.revisions
           ∙ sym (map-push (record_of c) rs (new_row (t.numbers + 1) 1 (rows_made past + 1) (made_of request)));
       revisions = ap (λ n. n + 1) f.revisions;
-      orderly = orderly-created t.numbers t.revisions t.records (new_record (t.numbers + 1) 1 (t.revisions + 1) (made_of request)) refl (omega arith) refl f.orderly;
+      orderly = orderly-created t.numbers t.revisions t.records (new_record (t.numbers + 1) 1 (t.revisions + 1) (made_of request)) refl refl (omega arith) refl f.orderly;
       drawn = collections-created t.numbers t.collections (new_collection (t.numbers + 1) token) refl f.drawn;
       owned = λ r i. own r (in-either r rs (new_row (t.numbers + 1) 1 (rows_made past + 1) (made_of request) ∷ []) i);
       times = λ x i. time x (in-either x t.collections (new_collection (t.numbers + 1) token ∷ []) i);
@@ -259,8 +259,8 @@ module _ (c : Configuration) (past : Past) (reading : ℕ) where
           ∙ sym (map-push (record_of c) (map (superseded_by number reading preserve) (filter (stays_at_update c reading number) rs)) (new_row number (current_version number t + 1) (rows_made past + 1) (made_of request)));
       revisions = ap (λ n. n + 1) f.revisions;
       orderly = (let le = version-le t.numbers t.revisions (is_current_of number) t.records f.orderly.drawn in
-          orderly-updated t.numbers t.revisions number (kept_until (rules_of c) reading preserve) (λ r. not (is_due_of reading number r)) t.records (new_record number (current_version number t + 1) (t.revisions + 1) (made_of request))
-          (kept-not-current (rules_of c) reading preserve) refl (member-drawn number x found) (omega (arith, le)) refl f.orderly);
+          orderly-updated t.numbers t.revisions (kept_until (rules_of c) reading preserve) (λ r. not (is_due_of reading number r)) t.records (new_record number (current_version number t + 1) (t.revisions + 1) (made_of request))
+          (kept-not-current (rules_of c) reading preserve) refl (update-keeps-current reading number) (member-drawn number x found) (omega (arith, le)) refl f.orderly);
       drawn = f.drawn;
       owned = λ r i. own r (in-either r (map (superseded_by number reading preserve) (filter (stays_at_update c reading number) rs)) (new_row number (current_version number t + 1) (rows_made past + 1) (made_of request) ∷ []) i);
       times = f.times;
@@ -381,7 +381,7 @@ module _ (c : Configuration) (past : Past) (reading : ℕ) where
     swept = record {
       records = ap (filter (outlasts reading t.collections)) f.records ∙ filter-map-on (record_of c) (outlasts reading t.collections) (stays_at_sweep c past reading) rs swept-same;
       revisions = f.revisions ∙ sym (plus-zero (rows_made past));
-      orderly = orderly-filter t.numbers t.revisions (outlasts reading t.collections) t.records f.orderly;
+      orderly = orderly-filter t.numbers t.revisions (outlasts reading t.collections) t.records (outlasts-together reading t.collections) f.orderly;
       drawn = collections-filter t.numbers (λ x. not (is_gone reading x)) t.collections f.drawn;
       owned = owned-swept;
       times = λ x i. f.times x (in-filter (λ (x : Collection). not (is_gone reading x)) x t.collections i).0;
@@ -413,7 +413,7 @@ facts-next c past reading (Q.Device n q) (A.Device a) f is = as-before c past re
     plus-nothing n = omega arith
 
 nothing-orderly : AreOrderly 0 0 []
-nothing-orderly = record { rising = tt; drawn = tt; one_current = λ n. omega arith }
+nothing-orderly = record { rising = tt; drawn = tt; superseded = tt }
 
 pub table-facts : (c : Configuration) (past : Past) → IsAllowed c past → TableFacts c past
 table-facts c [] a = record { records = refl; revisions = refl; orderly = nothing-orderly; drawn = tt; owned = λ r i. absurd i; times = λ x i. absurd i; fresh = λ n lt. refl }
