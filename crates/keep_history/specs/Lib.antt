@@ -1,6 +1,5 @@
 pub mod Effects
 pub mod Ended
-pub mod Faults
 pub mod Names
 pub mod Printed
 pub mod Reads

@@ -17,11 +17,9 @@ use Rattle.keep_history.specs.declared.task.Command.{Command}
 use Rattle.keep_history.specs.declared.task.Command.TheVariants as C
 use Rattle.keep_history.specs.declared.task.Opening.{Opening}
 use Rattle.keep_history.specs.declared.task.Opening.TheVariants as O
-use Rattle.keep_history.specs.declared.task.TaskState.{TaskState}
-use Rattle.keep_history.specs.declared.task.TaskState.TheVariants as S
-use Rattle.keep_history.specs.Names.{Names, state_of_name}
 use Rattle.keep_history.specs.Tasks.{NamesWithin}
 use Rattle.keep_spec.specs.Config.{Configuration}
+use Rattle.keep_history.specs.Names.{Named, at_name, Seen, is_open, located, row}
 
 -- NAMES AND READINGS
 abbrev pub is_name_character : ℕ → Bool
@@ -46,6 +44,7 @@ reading_at d = time_at (codes "at") d
 -- the reading that a command is done at
 abbrev pub reading_of : Command → ℕ
 reading_of (C.Open name reading opening) = reading
+reading_of (C.Step name reading) = reading
 reading_of (C.Finish name reading) = reading
 
 -- the times of a trash are readings
@@ -55,11 +54,13 @@ HasTimes _ = ⊤
 
 abbrev pub HasCommandTimes : Command → Type 0
 HasCommandTimes (C.Open name reading opening) = HasTimes opening
+HasCommandTimes (C.Step name reading) = ⊤
 HasCommandTimes (C.Finish name reading) = ⊤
 
 -- the server or the device that a command names is one of the configuration
 abbrev pub IsCommandWithin : Configuration → Command → Type 0
 IsCommandWithin c (C.Open name reading opening) = NamesWithin c opening
+IsCommandWithin c (C.Step name reading) = ⊤
 IsCommandWithin c (C.Finish name reading) = ⊤
 
 -- BYTES AND REFERENCES
@@ -71,22 +72,26 @@ lower_case digits (Ok bytes) = if bytes_eq (encode_lower bytes) digits then Some
 abbrev pub bytes_of_text : List ℕ → Option (List ℕ)
 bytes_of_text digits = lower_case digits (decode_of digits)
 
--- the one server that can be named so far
-abbrev pub server_at : Data → Option ℕ
-server_at d = option_and_then (λ n. if n == 0 then Some n else None) (number_at (codes "server") d)
+-- the number of a server of the configuration
+abbrev pub server_at : Configuration → Data → Option ℕ
+server_at c d = option_and_then (λ n. if nat_lt n (length c.servers) then Some n else None) (number_at (codes "server") d)
+
+-- the number of a device of the configuration
+abbrev pub device_at : Configuration → Data → Option ℕ
+device_at c d = option_and_then (λ n. if nat_lt n (length c.devices) then Some n else None) (number_at (codes "device") d)
 
 -- the locator of a task that ended Stored or Touched
-abbrev pub ended_locator : Option TaskState → Option (List ℕ)
-ended_locator (Some (S.Located locator)) = Some locator
+abbrev pub ended_locator : Option Seen → Option (List ℕ)
+ended_locator (Some (located locator)) = Some locator
 ended_locator _ = None
 
 -- an object with the one member `locator`, a name
-abbrev pub locator_of_reference : Names → Data → Option (List ℕ)
+abbrev pub locator_of_reference : Named Seen → Data → Option (List ℕ)
 locator_of_reference names d =
-    if has_members 1 d then option_and_then (λ name. ended_locator (state_of_name name names)) (text_at (codes "locator") d) else None
+    if has_members 1 d then option_and_then (λ name. ended_locator (at_name name names)) (text_at (codes "locator") d) else None
 
 -- a locator is a text, or a reference to a task
-abbrev pub locator_of_data : Names → Data → Option (List ℕ)
+abbrev pub locator_of_data : Named Seen → Data → Option (List ℕ)
 locator_of_data names d = option_or (as_str d) (locator_of_reference names d)
 
 -- KINDS
@@ -104,73 +109,69 @@ abbrev pub members_if : ℕ → Bool → ℕ
 members_if n given = if given then n + 1 else n
 
 -- `open`, `at`, `do`, `token`, `server`, `bytes`, and `digest` where it is given
-abbrev pub put_of_data : Data → Option Opening
-put_of_data d =
+abbrev pub put_of_data : Configuration → Data → Option Opening
+put_of_data c d =
     option_and_then (λ token. option_and_then (λ server. option_and_then (λ bytes. option_and_then (λ hash.
     if has_members (members_if 6 (is_some hash)) d then Some (O.Put token server bytes hash) else None)
     (digest_of_data (get (codes "digest") d)))
     (option_and_then bytes_of_text (text_at (codes "bytes") d)))
-    (server_at d)) (text_at (codes "token") d)
+    (server_at c d)) (text_at (codes "token") d)
 
 -- a block asked for: a token, a server and a locator
 abbrev pub BlockRequest : Type 0
 BlockRequest = List ℕ × ℕ × List ℕ
 
 -- `open`, `at`, `do`, `token`, `server` and `locator`
-abbrev pub block_request_of_data : Names → Data → Option BlockRequest
-block_request_of_data names d =
+abbrev pub block_request_of_data : Configuration → Named Seen → Data → Option BlockRequest
+block_request_of_data c names d =
     option_and_then (λ token. option_and_then (λ server. option_and_then (λ locator.
     if has_members 6 d then Some (token, server, locator) else None)
     (option_and_then (locator_of_data names) (get (codes "locator") d)))
-    (server_at d)) (text_at (codes "token") d)
+    (server_at c d)) (text_at (codes "token") d)
 
-abbrev pub get_of_data : Names → Data → Option Opening
-get_of_data names d = option_map (λ r. O.Get r.0 r.1 r.2) (block_request_of_data names d)
+abbrev pub get_of_data : Configuration → Named Seen → Data → Option Opening
+get_of_data c names d = option_map (λ r. O.Get r.0 r.1 r.2) (block_request_of_data c names d)
 
-abbrev pub touch_of_data : Names → Data → Option Opening
-touch_of_data names d = option_map (λ r. O.Touch r.0 r.1 r.2) (block_request_of_data names d)
+abbrev pub touch_of_data : Configuration → Named Seen → Data → Option Opening
+touch_of_data c names d = option_map (λ r. O.Touch r.0 r.1 r.2) (block_request_of_data c names d)
 
 -- a text at a name that makes a digest
 abbrev pub digest_at : List ℕ → Data → Option (List ℕ)
 digest_at field d = option_and_then (λ text. if is_digest text then Some (bytes_of_digits text) else None) (text_at field d)
 
 -- `open`, `at`, `do`, `token`, `server` and `digest`
-abbrev pub untrash_of_data : Data → Option Opening
-untrash_of_data d =
+abbrev pub untrash_of_data : Configuration → Data → Option Opening
+untrash_of_data c d =
     option_and_then (λ token. option_and_then (λ server. option_and_then (λ hash.
     if has_members 6 d then Some (O.Untrash token server hash) else None)
     (digest_at (codes "digest") d))
-    (server_at d)) (text_at (codes "token") d)
-
--- the one device that can be named so far
-abbrev pub device_at : Data → Option ℕ
-device_at d = option_and_then (λ n. if n == 0 then Some n else None) (number_at (codes "device") d)
+    (server_at c d)) (text_at (codes "token") d)
 
 -- `open`, `at`, `do` and `device`
-abbrev pub restart_of_data : Data → Option Opening
-restart_of_data d = option_and_then (λ device. if has_members 4 d then Some (O.Restart device) else None) (device_at d)
+abbrev pub restart_of_data : Configuration → Data → Option Opening
+restart_of_data c d = option_and_then (λ device. if has_members 4 d then Some (O.Restart device) else None) (device_at c d)
 
 -- MANIFESTS
-abbrev pub ended_text : Option TaskState → Option (List ℕ)
-ended_text (Some (S.Row text)) = Some text
+abbrev pub ended_text : Option Seen → Option (List ℕ)
+ended_text (Some (row text)) = Some text
 ended_text _ = None
 
 -- an object with the one member `manifest`, a name: the text of a task that ended Row
-abbrev pub text_of_reference : Names → Data → Option (List ℕ)
+abbrev pub text_of_reference : Named Seen → Data → Option (List ℕ)
 text_of_reference names d =
-    if has_members 1 d then option_and_then (λ name. ended_text (state_of_name name names)) (text_at (codes "manifest") d) else None
+    if has_members 1 d then option_and_then (λ name. ended_text (at_name name names)) (text_at (codes "manifest") d) else None
 
 -- a part of a manifest is a text, the locator of a task, or the text of a task
-abbrev pub part_of_data : Names → Data → Option (List ℕ)
+abbrev pub part_of_data : Named Seen → Data → Option (List ℕ)
 part_of_data names d = option_or (locator_of_data names d) (text_of_reference names d)
 
 -- the parts joined
-abbrev pub joined_parts : Names → Items → Option (List ℕ)
+abbrev pub joined_parts : Named Seen → Items → Option (List ℕ)
 joined_parts names no_items = Some []
 joined_parts names (item d ds) = option_and_then (λ part. option_map (λ rest. part ++ rest) (joined_parts names ds)) (part_of_data names d)
 
 -- a manifest is a text or a list of parts
-abbrev pub manifest_of_data : Names → Data → Option (List ℕ)
+abbrev pub manifest_of_data : Named Seen → Data → Option (List ℕ)
 manifest_of_data names d = option_or (as_str d) (option_and_then (joined_parts names) (as_array d))
 
 -- COLLECTIONS
@@ -189,7 +190,7 @@ abbrev pub want_at : Data → Option ℕ
 want_at d = option_and_then (λ n. if nat_le n 1000000000000000000 then Some n else None) (number_at (codes "want") d)
 
 -- `token`, `manifest`, `want`, and `portable` where it is given
-abbrev pub request_of_data : Names → Data → Option SaveRequest
+abbrev pub request_of_data : Named Seen → Data → Option SaveRequest
 request_of_data names d =
     option_and_then (λ token. option_and_then (λ text. option_and_then (λ want. option_map (λ portable.
     record { token = token; text = text; want = want; portable = portable })
@@ -199,12 +200,12 @@ request_of_data names d =
     (text_at (codes "token") d)
 
 -- `open`, `at`, `do` and the request
-abbrev pub save_of_data : Names → Data → Option Opening
+abbrev pub save_of_data : Named Seen → Data → Option Opening
 save_of_data names d =
     if has_members (members_if 6 (is_some (get (codes "portable") d))) d then option_map O.Save (request_of_data names d) else None
 
 -- `open`, `at`, `do`, `collection`, `preserve` where it is given, and the request
-abbrev pub update_of_data : Names → Data → Option Opening
+abbrev pub update_of_data : Named Seen → Data → Option Opening
 update_of_data names d =
     if has_members (members_if (members_if 7 (is_some (get (codes "portable") d))) (is_some (get (codes "preserve") d))) d
     then
@@ -242,7 +243,7 @@ abbrev pub sweep_of_data : Data → Option Opening
 sweep_of_data d = if has_members 3 d then Some O.Sweep else None
 
 -- the kinds that ask the table
-abbrev pub table_opening_of_kind : Names → List ℕ → Data → Option Opening
+abbrev pub table_opening_of_kind : Named Seen → List ℕ → Data → Option Opening
 table_opening_of_kind names kind d =
     if bytes_eq kind (codes "save") then save_of_data names d
     else if bytes_eq kind (codes "update") then update_of_data names d
@@ -252,37 +253,41 @@ table_opening_of_kind names kind d =
     else if bytes_eq kind (codes "sweep") then sweep_of_data d
     else None
 
-abbrev pub opening_of_kind : Names → List ℕ → Data → Option Opening
-opening_of_kind names kind d =
-    if bytes_eq kind (codes "put") then put_of_data d
-    else if bytes_eq kind (codes "get") then get_of_data names d
-    else if bytes_eq kind (codes "touch") then touch_of_data names d
-    else if bytes_eq kind (codes "untrash") then untrash_of_data d
-    else if bytes_eq kind (codes "restart") then restart_of_data d
+abbrev pub opening_of_kind : Configuration → Named Seen → List ℕ → Data → Option Opening
+opening_of_kind c names kind d =
+    if bytes_eq kind (codes "put") then put_of_data c d
+    else if bytes_eq kind (codes "get") then get_of_data c names d
+    else if bytes_eq kind (codes "touch") then touch_of_data c names d
+    else if bytes_eq kind (codes "untrash") then untrash_of_data c d
+    else if bytes_eq kind (codes "restart") then restart_of_data c d
     else table_opening_of_kind names kind d
 
 -- LINES
 -- a name that no line has opened
-abbrev pub opens : Names → Data → Option Command
-opens names d =
+abbrev pub opens : Configuration → Named Seen → Data → Option Command
+opens c names d =
     option_and_then (λ name. option_and_then (λ reading. option_and_then (λ kind.
-    if is_none (state_of_name name names) then option_map (C.Open name reading) (opening_of_kind names kind d) else None)
+    if is_none (at_name name names) then option_map (C.Open name reading) (opening_of_kind c names kind d) else None)
     (text_at (codes "do") d)) (reading_at d)) (name_at (codes "open") d)
 
-abbrev pub is_open : Option TaskState → Bool
-is_open (Some (S.Open task actor)) = true
-is_open _ = false
+abbrev pub is_of_open : Option Seen → Bool
+is_of_open (Some is_open) = true
+is_of_open _ = false
 
--- `finish` and `at`, of a name whose task is open
-abbrev pub finishes : Names → Data → Option Command
-finishes names d =
+-- a member that names an open task, and `at`
+abbrev pub names_open : List ℕ → (List ℕ → ℕ → Command) → Named Seen → Data → Option Command
+names_open member make names d =
     option_and_then (λ name. option_and_then (λ reading.
-    if has_members 2 d && is_open (state_of_name name names) then Some (C.Finish name reading) else None)
-    (reading_at d)) (name_at (codes "finish") d)
+    if has_members 2 d && is_of_open (at_name name names) then Some (make name reading) else None)
+    (reading_at d)) (name_at member d)
 
-abbrev pub command_of_data : Names → Data → Option Command
-command_of_data names d = if is_some (get (codes "open") d) then opens names d else finishes names d
+-- by the one of `open`, `step` and `finish` that stands in the line
+abbrev pub command_of_data : Configuration → Named Seen → Data → Option Command
+command_of_data c names d =
+    if is_some (get (codes "open") d) then opens c names d
+    else if is_some (get (codes "step") d) then names_open (codes "step") C.Step names d
+    else names_open (codes "finish") C.Finish names d
 
 -- the command of a line, or None where it is no script line after these names
-unfoldable pub command_of : Names → List ℕ → Option Command
-command_of names text = option_and_then (command_of_data names) (value_of text)
+unfoldable pub command_of : Configuration → Named Seen → List ℕ → Option Command
+command_of c names text = option_and_then (command_of_data c names) (value_of text)

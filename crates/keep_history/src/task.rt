@@ -220,11 +220,11 @@ pub enum Outcome {
     },
 }
 
-/// What has become of a name that a script opened. The actor is the number of its opening among all openings, from 0.
+/// What has become of a name that a script opened. `T` is what is kept of a task that asks.
 #[derive(Drop, Debug)]
-pub enum TaskState {
+pub enum TaskState<T> {
     /// The task has not ended.
-    Open { task: Task, actor: u32 },
+    Open { task: T },
     /// The task ended with a locator, which later lines can name.
     Located { locator: Bytes },
     /// The task ended with a row's text, whose locators later lines can name.
@@ -242,9 +242,8 @@ pub enum Command {
         reading: u64,
         opening: Opening,
     },
+    /// Asks the next query of the open task of a name.
+    Step { name: Bytes, reading: u64 },
     /// Asks until the open task of a name ends.
-    Finish {
-        name: Bytes,
-        reading: u64,
-    },
+    Finish { name: Bytes, reading: u64 },
 }
