@@ -274,19 +274,27 @@ abbrev pub is_of_open : Option Seen → Bool
 is_of_open (Some is_open) = true
 is_of_open _ = false
 
--- a member that names an open task, and `at`
-abbrev pub names_open : List ℕ → (List ℕ → ℕ → Command) → Named Seen → Data → Option Command
-names_open member make names d =
+-- the name of an open task, and a reading: a member that names it, and `at`
+abbrev pub open_named : List ℕ → Named Seen → Data → Option (List ℕ × ℕ)
+open_named member names d =
     option_and_then (λ name. option_and_then (λ reading.
-    if has_members 2 d && is_of_open (at_name name names) then Some (make name reading) else None)
+    if has_members 2 d && is_of_open (at_name name names) then Some (name, reading) else None)
     (reading_at d)) (name_at member d)
+
+-- `step` and `at`
+abbrev pub steps : Named Seen → Data → Option Command
+steps names d = option_map (λ t. C.Step t.0 t.1) (open_named (codes "step") names d)
+
+-- `finish` and `at`
+abbrev pub finishes : Named Seen → Data → Option Command
+finishes names d = option_map (λ t. C.Finish t.0 t.1) (open_named (codes "finish") names d)
 
 -- by the one of `open`, `step` and `finish` that stands in the line
 abbrev pub command_of_data : Configuration → Named Seen → Data → Option Command
 command_of_data c names d =
     if is_some (get (codes "open") d) then opens c names d
-    else if is_some (get (codes "step") d) then names_open (codes "step") C.Step names d
-    else names_open (codes "finish") C.Finish names d
+    else if is_some (get (codes "step") d) then steps names d
+    else finishes names d
 
 -- the command of a line, or None where it is no script line after these names
 unfoldable pub command_of : Configuration → Named Seen → List ℕ → Option Command

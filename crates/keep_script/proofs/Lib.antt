@@ -1,3 +1,3 @@
 pub mod LowerCase
-pub mod Named
 pub mod Pieces
+pub mod SeenNames

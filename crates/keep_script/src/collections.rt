@@ -1,7 +1,9 @@
 // What a line opens a task of collections with.
 ghost use Rattle.std.specs.Prelude.{◌≡◌, IfOk, IfSome, Option, None, Some, option_map, option_copied};
 ghost use Rattle.serde_json.specs.View.{view, items_view};
-ghost use Rattle.keep_history.specs.Names.{state_of_name};
+ghost use Rattle.keep_history.specs.Names.{at_name, seen_names};
+ghost use Rattle.keep_history.specs.Tasks.{NamesWithin};
+ghost use Rattle.keep_spec.specs.Config.{Configuration};
 ghost use Rattle.keep_history.specs.Script.{ended_text, joined_parts, manifest_of_data, number_of_data, part_of_data, read_of_data, request_of_data, restore_of_data, save_of_data, sweep_of_data, table_opening_of_kind, text_of_data, text_of_reference, trash_of_data, update_of_data, want_at, HasTimes};
 
 use crate::fields::{members_if, time_at};
@@ -18,14 +20,15 @@ use std::collections::BTreeMap;
 const WANT_MAX: u64 = 1_000_000_000_000_000_000;
 
 /// The same for the kinds that ask the table.
-pub(crate) fn table_opening_of_kind(
+pub(crate) fn table_opening_of_kind<T>(
     alloc: Global,
-    names: &BTreeMap<Bytes, TaskState>,
+    names: &BTreeMap<Bytes, TaskState<T>>,
     kind: &[u8],
     value: &Value,
 ) -> Result<Option<Opening>, NoMemory>
-    ensures opening { IfOk result (λ o. o ≡ table_opening_of_kind names.now.entries kind.now (view value.now)) }
+    ensures opening { IfOk result (λ o. o ≡ table_opening_of_kind (seen_names names.now.entries) kind.now (view value.now)) }
     ensures times { IfOk result (λ o. IfSome o HasTimes) }
+    ensures within { (c : Configuration) → IfOk result (λ o. IfSome o (NamesWithin c)) }
 {
     if kind == b"save".as_slice() {
         save_of_value(alloc, names, value)
@@ -44,13 +47,14 @@ pub(crate) fn table_opening_of_kind(
     }
 }
 
-fn save_of_value(
+fn save_of_value<T>(
     alloc: Global,
-    names: &BTreeMap<Bytes, TaskState>,
+    names: &BTreeMap<Bytes, TaskState<T>>,
     value: &Value,
 ) -> Result<Option<Opening>, NoMemory>
-    ensures opening { IfOk result (λ o. o ≡ save_of_data names.now.entries (view value.now)) }
+    ensures opening { IfOk result (λ o. o ≡ save_of_data (seen_names names.now.entries) (view value.now)) }
     ensures times { IfOk result (λ o. IfSome o HasTimes) }
+    ensures within { (c : Configuration) → IfOk result (λ o. IfSome o (NamesWithin c)) }
 {
     if !has_members(value, members_if(6, value.get("portable").is_some())) {
         return Ok(None);
@@ -61,13 +65,14 @@ fn save_of_value(
     }
 }
 
-fn update_of_value(
+fn update_of_value<T>(
     alloc: Global,
-    names: &BTreeMap<Bytes, TaskState>,
+    names: &BTreeMap<Bytes, TaskState<T>>,
     value: &Value,
 ) -> Result<Option<Opening>, NoMemory>
-    ensures opening { IfOk result (λ o. o ≡ update_of_data names.now.entries (view value.now)) }
+    ensures opening { IfOk result (λ o. o ≡ update_of_data (seen_names names.now.entries) (view value.now)) }
     ensures times { IfOk result (λ o. IfSome o HasTimes) }
+    ensures within { (c : Configuration) → IfOk result (λ o. IfSome o (NamesWithin c)) }
 {
     let claimed = members_if(7, value.get("portable").is_some());
     if !has_members(value, members_if(claimed, value.get("preserve").is_some())) {
@@ -92,6 +97,7 @@ fn update_of_value(
 fn read_of_value(alloc: Global, value: &Value) -> Result<Option<Opening>, NoMemory>
     ensures opening { IfOk result (λ o. o ≡ read_of_data (view value.now)) }
     ensures times { IfOk result (λ o. IfSome o HasTimes) }
+    ensures within { (c : Configuration) → IfOk result (λ o. IfSome o (NamesWithin c)) }
 {
     if !has_members(value, members_if(5, value.get("version").is_some())) {
         return Ok(None);
@@ -115,6 +121,7 @@ fn read_of_value(alloc: Global, value: &Value) -> Result<Option<Opening>, NoMemo
 fn trash_of_value(alloc: Global, value: &Value) -> Result<Option<Opening>, NoMemory>
     ensures opening { IfOk result (λ o. o ≡ trash_of_data (view value.now)) }
     ensures times { IfOk result (λ o. IfSome o HasTimes) }
+    ensures within { (c : Configuration) → IfOk result (λ o. IfSome o (NamesWithin c)) }
 {
     if !has_members(value, 7) {
         return Ok(None);
@@ -142,6 +149,7 @@ fn trash_of_value(alloc: Global, value: &Value) -> Result<Option<Opening>, NoMem
 fn restore_of_value(alloc: Global, value: &Value) -> Result<Option<Opening>, NoMemory>
     ensures opening { IfOk result (λ o. o ≡ restore_of_data (view value.now)) }
     ensures times { IfOk result (λ o. IfSome o HasTimes) }
+    ensures within { (c : Configuration) → IfOk result (λ o. IfSome o (NamesWithin c)) }
 {
     if !has_members(value, 5) {
         return Ok(None);
@@ -161,6 +169,7 @@ fn restore_of_value(alloc: Global, value: &Value) -> Result<Option<Opening>, NoM
 fn sweep_of_value(value: &Value) -> Option<Opening>
     ensures opening { result ≡ sweep_of_data (view value.now) }
     ensures times { IfSome result HasTimes }
+    ensures within { (c : Configuration) → IfSome result (NamesWithin c) }
 {
     if has_members(value, 3) {
         Some(Opening::Sweep)
@@ -170,12 +179,12 @@ fn sweep_of_value(value: &Value) -> Option<Opening>
 }
 
 // What a save or an update asks to store.
-fn request_of_value(
+fn request_of_value<T>(
     alloc: Global,
-    names: &BTreeMap<Bytes, TaskState>,
+    names: &BTreeMap<Bytes, TaskState<T>>,
     value: &Value,
 ) -> Result<Option<SaveRequest>, NoMemory>
-    ensures { IfOk result (λ o. o ≡ request_of_data names.now.entries (view value.now)) }
+    ensures { IfOk result (λ o. o ≡ request_of_data (seen_names names.now.entries) (view value.now)) }
 {
     let Some(token) = text_at(value, "token") else {
         return Ok(None);
@@ -232,12 +241,12 @@ fn number_of_member(member: Option<&Value>) -> Option<Option<u64>>
     }
 }
 
-fn manifest_of_value(
+fn manifest_of_value<T>(
     alloc: Global,
-    names: &BTreeMap<Bytes, TaskState>,
+    names: &BTreeMap<Bytes, TaskState<T>>,
     value: &Value,
 ) -> Result<Option<Bytes>, NoMemory>
-    ensures { IfOk result (λ o. o ≡ manifest_of_data names.now.entries (view value.now)) }
+    ensures { IfOk result (λ o. o ≡ manifest_of_data (seen_names names.now.entries) (view value.now)) }
 {
     if let Some(text) = value.as_str() {
         return Ok(Some(Bytes::copy_of(alloc, text.as_bytes())?));
@@ -248,12 +257,12 @@ fn manifest_of_value(
     }
 }
 
-fn joined_parts(
+fn joined_parts<T>(
     alloc: Global,
-    names: &BTreeMap<Bytes, TaskState>,
+    names: &BTreeMap<Bytes, TaskState<T>>,
     parts: &[Value],
 ) -> Result<Option<Bytes>, NoMemory>
-    ensures { IfOk result (λ o. o ≡ joined_parts names.now.entries (items_view parts.now)) }
+    ensures { IfOk result (λ o. o ≡ joined_parts (seen_names names.now.entries) (items_view parts.now)) }
 {
     let mut text = Vec::new(alloc);
     for part in parts {
@@ -265,12 +274,12 @@ fn joined_parts(
     Ok(Some(Bytes::of(text)))
 }
 
-fn part_of_value(
+fn part_of_value<T>(
     alloc: Global,
-    names: &BTreeMap<Bytes, TaskState>,
+    names: &BTreeMap<Bytes, TaskState<T>>,
     value: &Value,
 ) -> Result<Option<Bytes>, NoMemory>
-    ensures { IfOk result (λ o. o ≡ part_of_data names.now.entries (view value.now)) }
+    ensures { IfOk result (λ o. o ≡ part_of_data (seen_names names.now.entries) (view value.now)) }
 {
     match locator_of_value(alloc, names, value)? {
         Some(text) => Ok(Some(text)),
@@ -278,12 +287,12 @@ fn part_of_value(
     }
 }
 
-fn text_of_reference(
+fn text_of_reference<T>(
     alloc: Global,
-    names: &BTreeMap<Bytes, TaskState>,
+    names: &BTreeMap<Bytes, TaskState<T>>,
     value: &Value,
 ) -> Result<Option<Bytes>, NoMemory>
-    ensures { IfOk result (λ o. o ≡ text_of_reference names.now.entries (view value.now)) }
+    ensures { IfOk result (λ o. o ≡ text_of_reference (seen_names names.now.entries) (view value.now)) }
 {
     if !has_members(value, 1) {
         return Ok(None);
@@ -294,12 +303,13 @@ fn text_of_reference(
     }
 }
 
-fn ended_text(
+#[tactic(auto, using(crate::proofs::SeenNames::seen_at_name))]
+fn ended_text<T>(
     alloc: Global,
-    names: &BTreeMap<Bytes, TaskState>,
+    names: &BTreeMap<Bytes, TaskState<T>>,
     name: &Bytes,
 ) -> Result<Option<Bytes>, NoMemory>
-    ensures { IfOk result (λ o. o ≡ ended_text (state_of_name name.now names.now.entries)) }
+    ensures { IfOk result (λ o. o ≡ ended_text (at_name name.now (seen_names names.now.entries))) }
 {
     match names.get(name) {
         Some(TaskState::Row { text }) => Ok(Some(text.duplicate(alloc)?)),

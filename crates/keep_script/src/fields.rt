@@ -1,10 +1,11 @@
 // What single members of a line say.
-ghost use Rattle.std.specs.Prelude.{◌≡◌, ◌≤◌, ◌<◌, ◌+◌, ◌^◌, IfOk, IfSome};
+ghost use Rattle.std.specs.Prelude.{◌≡◌, ◌≤◌, ◌<◌, ◌+◌, ◌^◌, nat_lt, if◌then◌else◌, Some, None, IfOk, IfSome, length};
 ghost use Rattle.std.specs.List.{list_all};
 ghost use Rattle.serde_json.specs.View.{view};
 ghost use Rattle.keep_spec.specs.Times.{IsReading};
 ghost use Rattle.keep_history.specs.Script.{device_at, is_name_character, is_task_name, members_if, name_at, reading_at, server_at, time_at};
 
+use keep_config::Config;
 use keep_config::json::{number_at, text_at};
 use keep_spec::{Bytes, NoMemory, READING_END};
 use serde_json::Value;
@@ -71,22 +72,30 @@ pub(crate) fn members_if(count: usize, given: bool) -> usize
     if given { count + 1 } else { count }
 }
 
-/// The one server that a line can name so far.
-pub(crate) fn server_at(value: &Value) -> Option<u32>
-    ensures { result ≡ server_at (view value.now) }
+/// The server that a line names, one of the configuration.
+pub(crate) fn server_at(config: &Config, value: &Value) -> Option<u32>
+    ensures server { result ≡ server_at config.now (view value.now) }
+    ensures within { IfSome result (λ n. n < length config.now.servers) }
 {
-    match number_at(value, "server") {
-        Some(0) => Some(0),
-        _ => None,
-    }
+    number_below(number_at(value, "server")?, config.servers.len())
 }
 
-/// The one device that a line can name so far.
-pub(crate) fn device_at(value: &Value) -> Option<u32>
-    ensures { result ≡ device_at (view value.now) }
+/// The device that a line names, one of the configuration.
+pub(crate) fn device_at(config: &Config, value: &Value) -> Option<u32>
+    ensures device { result ≡ device_at config.now (view value.now) }
+    ensures within { IfSome result (λ n. n < length config.now.devices) }
 {
-    match number_at(value, "device") {
-        Some(0) => Some(0),
-        _ => None,
+    number_below(number_at(value, "device")?, config.devices.len())
+}
+
+fn number_below(number: u64, end: usize) -> Option<u32>
+    requires { end ≤ 64 }
+    ensures number { result ≡ if nat_lt number end then Some number else None }
+    ensures within { IfSome result (λ n. n < end) }
+{
+    if number < end as u64 {
+        Some(number as u32)
+    } else {
+        None
     }
 }

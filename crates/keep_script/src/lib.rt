@@ -9,6 +9,6 @@ mod opening;
 mod printed;
 mod tables;
 
-pub use line::read_command;
+pub use line::{CommandError, read_line};
 pub use printed::{push_end_line, push_event_line};
 pub use tables::push_table_event_line;

@@ -1,13 +1,15 @@
 // What a line opens a task with.
-ghost use Rattle.std.specs.Prelude.{◌≡◌, IfOk, IfSome, Option, None, Some, option_map, option_copied};
+ghost use Rattle.std.specs.Prelude.{◌≡◌, ◌<◌, length, IfOk, IfSome, Option, None, Some, option_map, option_copied};
 ghost use Rattle.serde_json.specs.View.{view};
 ghost use Rattle.serde_json.specs.Find.{get};
 ghost use Rattle.keep_history.specs.Script.{block_request_of_data, digest_at, digest_of_data, ended_locator, get_of_data, locator_of_data, locator_of_reference, opening_of_kind, put_of_data, restart_of_data, touch_of_data, untrash_of_data, HasTimes};
-ghost use Rattle.keep_history.specs.Names.{state_of_name};
+ghost use Rattle.keep_history.specs.Names.{at_name, seen_names};
+ghost use Rattle.keep_history.specs.Tasks.{NamesWithin};
 
 use crate::collections::table_opening_of_kind;
 use crate::fields::{device_at, members_if, server_at};
 use crate::hexadecimal::bytes_of_text;
+use keep_config::Config;
 use keep_config::json::{has_members, text_at};
 use keep_history::{Opening, TaskState};
 use keep_spec::{Bytes, Digest, NoMemory};
@@ -16,38 +18,41 @@ use std::alloc::Global;
 use std::collections::BTreeMap;
 
 /// The opening of a line of this kind, from its other members. None where they aren't those of the kind.
-pub(crate) fn opening_of_kind(
+pub(crate) fn opening_of_kind<T>(
     alloc: Global,
-    names: &BTreeMap<Bytes, TaskState>,
+    config: &Config,
+    names: &BTreeMap<Bytes, TaskState<T>>,
     kind: &[u8],
     value: &Value,
 ) -> Result<Option<Opening>, NoMemory>
-    ensures opening { IfOk result (λ o. o ≡ opening_of_kind names.now.entries kind.now (view value.now)) }
+    ensures opening { IfOk result (λ o. o ≡ opening_of_kind config.now (seen_names names.now.entries) kind.now (view value.now)) }
     ensures times { IfOk result (λ o. IfSome o HasTimes) }
+    ensures within { IfOk result (λ o. IfSome o (NamesWithin config.now)) }
 {
     if kind == b"put".as_slice() {
-        put_of_value(alloc, value)
+        put_of_value(alloc, config, value)
     } else if kind == b"get".as_slice() {
-        get_of_value(alloc, names, value)
+        get_of_value(alloc, config, names, value)
     } else if kind == b"touch".as_slice() {
-        touch_of_value(alloc, names, value)
+        touch_of_value(alloc, config, names, value)
     } else if kind == b"untrash".as_slice() {
-        untrash_of_value(alloc, value)
+        untrash_of_value(alloc, config, value)
     } else if kind == b"restart".as_slice() {
-        Ok(restart_of_value(value))
+        Ok(restart_of_value(config, value))
     } else {
         table_opening_of_kind(alloc, names, kind, value)
     }
 }
 
-fn put_of_value(alloc: Global, value: &Value) -> Result<Option<Opening>, NoMemory>
-    ensures opening { IfOk result (λ o. o ≡ put_of_data (view value.now)) }
+fn put_of_value(alloc: Global, config: &Config, value: &Value) -> Result<Option<Opening>, NoMemory>
+    ensures opening { IfOk result (λ o. o ≡ put_of_data config.now (view value.now)) }
     ensures times { IfOk result (λ o. IfSome o HasTimes) }
+    ensures within { IfOk result (λ o. IfSome o (NamesWithin config.now)) }
 {
     let Some(token) = text_at(value, "token") else {
         return Ok(None);
     };
-    let Some(server) = server_at(value) else {
+    let Some(server) = server_at(config, value) else {
         return Ok(None);
     };
     let Some(digits) = text_at(value, "bytes") else {
@@ -78,17 +83,19 @@ struct BlockRequest {
     locator: Bytes,
 }
 
-fn block_request_of_value(
+fn block_request_of_value<T>(
     alloc: Global,
-    names: &BTreeMap<Bytes, TaskState>,
+    config: &Config,
+    names: &BTreeMap<Bytes, TaskState<T>>,
     value: &Value,
 ) -> Result<Option<BlockRequest>, NoMemory>
-    ensures { IfOk result (λ o. option_map (λ r. (r.token, r.server, r.locator)) o ≡ block_request_of_data names.now.entries (view value.now)) }
+    ensures request { IfOk result (λ o. option_map (λ r. (r.token, r.server, r.locator)) o ≡ block_request_of_data config.now (seen_names names.now.entries) (view value.now)) }
+    ensures within { IfOk result (λ o. IfSome o (λ r. r.server < length config.now.servers)) }
 {
     let Some(token) = text_at(value, "token") else {
         return Ok(None);
     };
-    let Some(server) = server_at(value) else {
+    let Some(server) = server_at(config, value) else {
         return Ok(None);
     };
     let Some(found) = value.get("locator") else {
@@ -107,15 +114,17 @@ fn block_request_of_value(
     }))
 }
 
-fn get_of_value(
+fn get_of_value<T>(
     alloc: Global,
-    names: &BTreeMap<Bytes, TaskState>,
+    config: &Config,
+    names: &BTreeMap<Bytes, TaskState<T>>,
     value: &Value,
 ) -> Result<Option<Opening>, NoMemory>
-    ensures opening { IfOk result (λ o. o ≡ get_of_data names.now.entries (view value.now)) }
+    ensures opening { IfOk result (λ o. o ≡ get_of_data config.now (seen_names names.now.entries) (view value.now)) }
     ensures times { IfOk result (λ o. IfSome o HasTimes) }
+    ensures within { IfOk result (λ o. IfSome o (NamesWithin config.now)) }
 {
-    match block_request_of_value(alloc, names, value)? {
+    match block_request_of_value(alloc, config, names, value)? {
         Some(
             BlockRequest {
                 token,
@@ -131,15 +140,17 @@ fn get_of_value(
     }
 }
 
-fn touch_of_value(
+fn touch_of_value<T>(
     alloc: Global,
-    names: &BTreeMap<Bytes, TaskState>,
+    config: &Config,
+    names: &BTreeMap<Bytes, TaskState<T>>,
     value: &Value,
 ) -> Result<Option<Opening>, NoMemory>
-    ensures opening { IfOk result (λ o. o ≡ touch_of_data names.now.entries (view value.now)) }
+    ensures opening { IfOk result (λ o. o ≡ touch_of_data config.now (seen_names names.now.entries) (view value.now)) }
     ensures times { IfOk result (λ o. IfSome o HasTimes) }
+    ensures within { IfOk result (λ o. IfSome o (NamesWithin config.now)) }
 {
-    match block_request_of_value(alloc, names, value)? {
+    match block_request_of_value(alloc, config, names, value)? {
         Some(
             BlockRequest {
                 token,
@@ -155,14 +166,19 @@ fn touch_of_value(
     }
 }
 
-fn untrash_of_value(alloc: Global, value: &Value) -> Result<Option<Opening>, NoMemory>
-    ensures opening { IfOk result (λ o. o ≡ untrash_of_data (view value.now)) }
+fn untrash_of_value(
+    alloc: Global,
+    config: &Config,
+    value: &Value,
+) -> Result<Option<Opening>, NoMemory>
+    ensures opening { IfOk result (λ o. o ≡ untrash_of_data config.now (view value.now)) }
     ensures times { IfOk result (λ o. IfSome o HasTimes) }
+    ensures within { IfOk result (λ o. IfSome o (NamesWithin config.now)) }
 {
     let Some(token) = text_at(value, "token") else {
         return Ok(None);
     };
-    let Some(server) = server_at(value) else {
+    let Some(server) = server_at(config, value) else {
         return Ok(None);
     };
     let Some(digest) = digest_at(value, "digest") else {
@@ -178,11 +194,12 @@ fn untrash_of_value(alloc: Global, value: &Value) -> Result<Option<Opening>, NoM
     }))
 }
 
-fn restart_of_value(value: &Value) -> Option<Opening>
-    ensures opening { result ≡ restart_of_data (view value.now) }
+fn restart_of_value(config: &Config, value: &Value) -> Option<Opening>
+    ensures opening { result ≡ restart_of_data config.now (view value.now) }
     ensures times { IfSome result HasTimes }
+    ensures within { IfSome result (NamesWithin config.now) }
 {
-    let device = device_at(value)?;
+    let device = device_at(config, value)?;
     if has_members(value, 4) {
         Some(Opening::Restart { device })
     } else {
@@ -210,12 +227,12 @@ fn digest_of_member(member: Option<&Value>) -> Option<Option<Digest>>
 }
 
 /// The locator of a text, or of a reference to a task that ended with one.
-pub(crate) fn locator_of_value(
+pub(crate) fn locator_of_value<T>(
     alloc: Global,
-    names: &BTreeMap<Bytes, TaskState>,
+    names: &BTreeMap<Bytes, TaskState<T>>,
     value: &Value,
 ) -> Result<Option<Bytes>, NoMemory>
-    ensures { IfOk result (λ o. o ≡ locator_of_data names.now.entries (view value.now)) }
+    ensures { IfOk result (λ o. o ≡ locator_of_data (seen_names names.now.entries) (view value.now)) }
 {
     match value.as_str() {
         Some(text) => Ok(Some(Bytes::copy_of(alloc, text.as_bytes())?)),
@@ -223,12 +240,12 @@ pub(crate) fn locator_of_value(
     }
 }
 
-fn locator_of_reference(
+fn locator_of_reference<T>(
     alloc: Global,
-    names: &BTreeMap<Bytes, TaskState>,
+    names: &BTreeMap<Bytes, TaskState<T>>,
     value: &Value,
 ) -> Result<Option<Bytes>, NoMemory>
-    ensures { IfOk result (λ o. o ≡ locator_of_reference names.now.entries (view value.now)) }
+    ensures { IfOk result (λ o. o ≡ locator_of_reference (seen_names names.now.entries) (view value.now)) }
 {
     if !has_members(value, 1) {
         return Ok(None);
@@ -239,12 +256,13 @@ fn locator_of_reference(
     }
 }
 
-fn ended_locator(
+#[tactic(auto, using(crate::proofs::SeenNames::seen_at_name))]
+fn ended_locator<T>(
     alloc: Global,
-    names: &BTreeMap<Bytes, TaskState>,
+    names: &BTreeMap<Bytes, TaskState<T>>,
     name: &Bytes,
 ) -> Result<Option<Bytes>, NoMemory>
-    ensures { IfOk result (λ o. o ≡ ended_locator (state_of_name name.now names.now.entries)) }
+    ensures { IfOk result (λ o. o ≡ ended_locator (at_name name.now (seen_names names.now.entries))) }
 {
     match names.get(name) {
         Some(TaskState::Located { locator }) => Ok(Some(locator.duplicate(alloc)?)),
