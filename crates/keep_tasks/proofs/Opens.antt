@@ -1,4 +1,4 @@
--- What openings make: `ended-at-once` and `task-made`, and `task-of` and `may-ask` the other way round; `put-opens`, `get-opens`, `touch-opens`, `untrash-opens` for a known token, and `put-unknown`, `get-unknown`, `touch-unknown`, `untrash-unknown`; `restart-opens` and `restart-begins`.
+-- What openings make: `ended-at-once` and `task-made`, and `task-of` and `may-ask` the other way round; `put-opens`, `get-opens`, `touch-opens`, `untrash-opens` for a known token, and `put-unknown`, `get-unknown`, `touch-unknown`, `untrash-unknown`; `restart-opens` and `restart-begins`; `of-kind` on an opening of one kind as one of any.
 use Rattle.std.proofs.Common.{◌≡◌, ℕ, Bool, List, [], length, Option, None, Some, Result, Ok, Err, refl, sym, subst}
 use Rattle.keep_spec.specs.Config.{Configuration, token_of}
 use Rattle.keep_spec.specs.declared.token.TokenId.{TokenId}
@@ -11,7 +11,10 @@ use Rattle.keep_event.specs.declared.event.Query.TheVariants as Query
 use Rattle.keep_event.specs.declared.device.DeviceQuery.TheVariants as Q
 use Rattle.keep_history.specs.Tasks.{Answered, Next, next, opened, put_opened, get_opened, touch_opened, untrash_opened}
 use Rattle.keep_tasks.specs.Kinds.{IsRestart}
+use Rattle.keep_tasks.specs.Running.{as_any}
 use Rattle.keep_tasks.specs.Steps.{IsOpened, IsReady}
+use Rattle.keep_tasks.specs.declared.running.Running.{Running}
+use Rattle.keep_tasks.specs.declared.steps.Opened.{Opened}
 use Rattle.keep_tasks.specs.declared.steps.Opened.TheVariants as Opened
 
 pub ended-at-once : {T : Type 0} (Stands : T → Task → Type 0) (r : Result Task Outcome) (outcome : Outcome) → r ≡ Err outcome → IsOpened r (Opened.Ended outcome) Stands
@@ -69,3 +72,11 @@ restart-opens c device reading = refl
 pub restart-begins : (c : Configuration) (device : ℕ) → IsRestart (Query.Device device Q.Restart) (next c (T.Restart device)) []
 unfolding next
 restart-begins c device = record { device = device; query_is = refl; goes = λ more. refl }
+
+-- an opening that is right for a task of its kind is right for one of any
+pub of-kind : {T : Type 0} (kind : T → Running) (Stands : T → Task → Type 0) (Known : Running → Task → Type 0) (r : Result Task Outcome) (o : Opened T) (any : Opened Running)
+    → any ≡ as_any kind o → IsOpened r o Stands → ((t : T) (task : Task) → Stands t task → Known (kind t) task) → IsOpened r any Known
+of-kind kind Stands Known (Ok task) (Opened.Task t) any e h same = rw e (same t task h)
+of-kind kind Stands Known (Ok task) (Opened.Ended outcome) any e h same = absurd h
+of-kind kind Stands Known (Err end) (Opened.Ended outcome) any e h same = rw e h
+of-kind kind Stands Known (Err end) (Opened.Task t) any e h same = absurd h

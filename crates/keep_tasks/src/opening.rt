@@ -1,7 +1,9 @@
 // What an opening makes: a task, or an end at once.
-ghost use Rattle.std.specs.Prelude.{◌≡◌, ◌<◌, ℕ, List, IfOk, All, length};
+ghost use Rattle.std.specs.Prelude.{◌≡◌, ◌<◌, ℕ, List, IfOk, IsTrue, All, length};
 ghost use Rattle.keep_spec.specs.Config.{devices_of};
-ghost use Rattle.keep_history.specs.Tasks.{opened, NamesWithin, put_opened, get_opened, touch_opened, untrash_opened, on_any, permitted_block, asks_table, by_verdict, has_other_digest, is_read_only, writable};
+ghost use Rattle.keep_history.specs.Tasks.{opened, NamesWithin, put_opened, get_opened, touch_opened, untrash_opened, on_any, permitted_block, asks_table, by_verdict, has_other_digest, is_read_only, is_task_query, writable};
+ghost use Rattle.keep_history.specs.Script.{HasTimes};
+ghost use Rattle.keep_event.specs.Requests.{MayAskTable};
 ghost use Rattle.keep_history.specs.declared.task.Task.{Task as TheTask};
 ghost use Rattle.keep_spec.specs.declared.token.TokenId.{TokenId as TheTokenId};
 ghost use Rattle.keep_tasks.specs.Openings.{AsksTable, HasDevicesBelow, made};
@@ -298,11 +300,13 @@ fn open_untrash(
     }
 }
 
-// The query of an opening that asks the table.
+/// The query of an opening that asks the table. Where the times of a trash are readings, it may be asked.
 #[tactic(auto, unfolding(keep_history::specs::Tasks::opened))]
-fn table_query(config: &Config, opening: Opening) -> TableQuery
+pub(crate) fn table_query(config: &Config, opening: Opening) -> TableQuery
     requires { AsksTable opening }
-    ensures { (reading : ℕ) → opened config.now opening reading ≡ asks_table result }
+    ensures opened { (reading : ℕ) → opened config.now opening reading ≡ asks_table result }
+    ensures task { IsTrue (is_task_query result) }
+    ensures askable { HasTimes opening → MayAskTable result }
 {
     match opening {
         Opening::Save { request } => TableQuery::Save { request },
