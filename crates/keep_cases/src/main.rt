@@ -21,6 +21,7 @@ mod plans;
 mod printed;
 mod runs;
 mod safety;
+mod script;
 mod signing;
 mod statuses;
 mod stores;

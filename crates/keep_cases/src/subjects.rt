@@ -3,7 +3,7 @@ use crate::answer::Answer;
 use crate::book::Case;
 use crate::{
     configurations, devices, indexes, lines, lists, locators, manifests, names, orders, packs,
-    plans, printed, runs, safety, signing, statuses, tables, tasks, texts, wire, written,
+    plans, printed, runs, safety, script, signing, statuses, tables, tasks, texts, wire, written,
 };
 use std::alloc::Global;
 
@@ -33,6 +33,7 @@ pub fn answer_to(alloc: Global, subject: &str, case: &Case, answer: &mut Answer)
         "responses" => wire::answer(alloc, subject, case, answer),
         "runs" => runs::answer(alloc, case, answer),
         "safety" => safety::answer(alloc, case, answer),
+        "script" => script::answer(alloc, case, answer),
         "signatures" => signing::answer_signatures(case, answer),
         "signed" => signing::answer_signed(alloc, case, answer),
         "sinks" => lines::answer_sink(alloc, case, answer),
