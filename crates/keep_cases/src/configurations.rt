@@ -4,9 +4,7 @@
 // with `?` asks about the last configuration that was ok: `? token TEXT` the number of a token, `? text NUMBER` the text of one, `? devices SERVER` the devices of a
 // server, `? device NUMBER` whether a device is read-only, and its capacity, `? addresses SERVER` how many a server has, `? cluster`, `? secret`, `? numbers` those of
 // the other fields, `? threshold START`, `? trash_life`, `? guard` and `? grace` spans in nanoseconds.
-use crate::answer::Answer;
-use crate::book::{Case, Setting};
-use crate::error::OutOfMemory;
+use keep_casebook::{Answer, Case, OutOfMemory, Setting};
 use keep_config::{Config, ConfigError, TokenId};
 use std::alloc::Global;
 use std::str::from_utf8;

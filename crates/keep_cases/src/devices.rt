@@ -5,11 +5,8 @@
 // event, with what that line doesn't say, and at the end what the store holds; with `changes` also how many calls that change a store were made of it.
 ghost use Rattle.std.specs.Prelude.{◌≤◌};
 
-use crate::answer::Answer;
-use crate::book::{Case, bytes_of_hex, numbers_of};
 use crate::counted::Counted;
-use crate::error::OutOfMemory;
-use crate::stores::{answer_store, put_held};
+use keep_casebook::{Answer, Case, OutOfMemory, answer_store, bytes_of_hex, numbers_of, put_held};
 use keep_event::{
     Block, DeviceAnswer, DeviceQuery, DeviceRules, Entry, Lists, PullItem, TrashItem,
 };

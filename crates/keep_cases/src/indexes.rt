@@ -1,7 +1,6 @@
 // Indexes: the whole input is a text. Its entries, one a line, and whether they are written as this text; or the refusal. With the setting `prefixes` the text
 // is read first as it is cut at each length, from nothing on.
-use crate::answer::Answer;
-use crate::book::Case;
+use keep_casebook::{Answer, Case};
 use keep_lists::{Entry, IndexError, read_index, write_index};
 use std::alloc::Global;
 

@@ -4,14 +4,12 @@
 // `room` (std's writer to a slice of so many bytes).
 ghost use Rattle.std.specs.Prelude.{◌≤◌};
 
-use crate::answer::Answer;
-use crate::book::{Case, numbers_of};
-use crate::error::OutOfMemory;
 use crate::pieces::Pieces;
 use keep_base::{
     ByteSink, Failed, Line, LineError, Lines, ReaderSource, Sink, Source, WriteFault, WriterSink,
     write_all,
 };
+use keep_casebook::{Answer, Case, OutOfMemory, numbers_of};
 use std::alloc::Global;
 
 // The longest line that is shown.

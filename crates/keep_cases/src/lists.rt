@@ -1,8 +1,7 @@
 // Lists of a device: the setting `config` is a configuration, `device` the device's number, and the whole input a text. Its items, one a line, and whether
 // they are written as this text; or the refusal.
-use crate::answer::Answer;
-use crate::book::Case;
 use crate::indexes::answer_again;
+use keep_casebook::{Answer, Case};
 use keep_config::Config;
 use keep_lists::{Lists, ListsError, read_lists, write_lists};
 use std::alloc::Global;

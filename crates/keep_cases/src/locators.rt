@@ -1,6 +1,5 @@
 // Locators, one a line: their parts, or the place of the refusal.
-use crate::answer::Answer;
-use crate::book::Case;
+use keep_casebook::{Answer, Case};
 use keep_locator::{BadLocator, Locator};
 
 // The most hints that are told.

@@ -3,8 +3,7 @@
 // text and its portable data hash. Or the kind and the place of the first refusal.
 ghost use Rattle.keep_spec.specs.Manifest.{IsGood};
 
-use crate::answer::Answer;
-use crate::book::Case;
+use keep_casebook::{Answer, Case};
 use keep_manifest::{BadManifest, Kind, Manifest, is_good, named, read, write};
 use keep_normal::{FileParts, NormalError, files, normalize, portable_hash, stripped_text};
 use std::alloc::Global;

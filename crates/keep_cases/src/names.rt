@@ -1,6 +1,5 @@
 // Names of manifests. With the setting `encode` the input, whole, is a name that is encoded; else each line is a text that is decoded.
-use crate::answer::Answer;
-use crate::book::Case;
+use keep_casebook::{Answer, Case};
 use keep_manifest::{decode_name, encode_name};
 use std::alloc::Global;
 

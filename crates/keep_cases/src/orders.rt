@@ -1,6 +1,5 @@
 // Orders of services: the setting `digest` is a block, each `service` a UUID. The places of the services in the order in which they are asked.
-use crate::answer::Answer;
-use crate::book::Case;
+use keep_casebook::{Answer, Case};
 use keep_order::order;
 use keep_spec::{Digest, Uuid};
 use std::alloc::Global;

@@ -2,10 +2,8 @@
 // size of a block. The blocks, one a line, and the manifest; or the refusal. Then the files that the manifest is unpacked to, one a line as in the input, or why it
 // isn't, where the settings `without` and `short` number a block that isn't there or lacks its last byte.
 // `unpacks`: the whole input is a manifest, and each setting `block` has the bytes of a block.
-use crate::answer::Answer;
-use crate::book::Case;
-use crate::error::OutOfMemory;
 use crate::manifests::answer_refusal;
+use keep_casebook::{Answer, Case, OutOfMemory};
 use keep_event::Block;
 use keep_files::{FileIn, PackError, Packed, UnpackError, pack_files, unpack};
 use keep_manifest::{is_good, read};

@@ -1,9 +1,7 @@
 // Plans of a round: the setting `config` is a configuration, `started` the reading at which the round began. Each line of the input is `page DEVICE` and any
 // number of entries `DIGEST+SIZE+MTIME`, or `row WANT` and any number of digests, which is a scan by itself, or `scan more` or `scan last` and any number of
 // revisions of rows without digests. The answer has what each such scan was answered, each device's items, device by device, and then the lost digests.
-use crate::answer::Answer;
-use crate::book::Case;
-use crate::error::OutOfMemory;
+use keep_casebook::{Answer, Case, OutOfMemory};
 use keep_config::Config;
 use keep_event::{Entry, Lists, ScanRow};
 use keep_gather::{Gather, Scanned};

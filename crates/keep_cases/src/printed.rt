@@ -1,7 +1,6 @@
 // Ends and events that no run over one device reaches, one a line: `end TooLong`, `end Corrupt DIGEST`, `end Untrashed COPIES`, `full DEVICE CAPACITY` of a device
 // with as many bytes as a u128 counts. The printed line.
-use crate::answer::Answer;
-use crate::book::Case;
+use keep_casebook::{Answer, Case};
 use keep_event::DeviceAnswer;
 use keep_history::Outcome;
 use keep_script::{push_end_line, push_event_line};

@@ -3,9 +3,7 @@
 // `save NUMBER TEXT..`, `update NUMBER TEXT..` and `preserve NUMBER TEXT..` (of a manifest that names the blocks of these texts), `read NUMBER EXPIRY TEXT..`,
 // `trash NUMBER DELETE_AT`, `restore NUMBER`, `sweep`. The answer has a line for each protected digest, with the devices that hold it, and at last `safe`, or the digest
 // that is held nowhere.
-use crate::answer::Answer;
-use crate::book::Case;
-use crate::error::OutOfMemory;
+use keep_casebook::{Answer, Case, OutOfMemory};
 use keep_config::Config;
 use keep_core::{Unsafe, holders, protected, safe_at};
 use keep_event::{

@@ -1,9 +1,8 @@
 // Signatures. `macs`: the input, whole, under a `key` (`TIMES DIGITS`, hexadecimal); the digits of its HMAC. `signatures`: each line is a digest, signed for
 // `token`, `expiry`, `ttl` and `secret`. `verdicts`: each line is a locator, checked for `token`, `ttl` and `secret` at `reading`. `signed`: the input, whole,
 // is a manifest, signed as `signatures` are; with `unsigned`, without its permission hints.
-use crate::answer::Answer;
-use crate::book::{Case, repeated};
 use crate::manifests::answer_refusal;
+use keep_casebook::{Answer, Case, repeated};
 use keep_locator::Locator;
 use keep_sign::{Unverified, hmac, sign, sign_manifest, unsigned_manifest, verify};
 use keep_spec::Digest;

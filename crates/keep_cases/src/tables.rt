@@ -5,9 +5,7 @@
 ghost use Rattle.std.specs.Prelude.{◌≡◌, IfOk, IfSome};
 ghost use Rattle.keep_event.specs.Requests.{MayAskTable, rules_of as table_rules_of};
 
-use crate::answer::Answer;
-use crate::book::Case;
-use crate::error::OutOfMemory;
+use keep_casebook::{Answer, Case, OutOfMemory};
 use keep_collections::{SaveRequest, Table, TableAnswer, TableQuery, rules_of};
 use keep_config::Config;
 use keep_event::ScanRow;

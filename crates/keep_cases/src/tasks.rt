@@ -9,12 +9,9 @@ ghost use Rattle.keep_event.specs.Requests.{MayAskTable};
 ghost use Rattle.keep_history.specs.Tasks.{is_task_query};
 ghost use Rattle.keep_cluster.specs.Cluster.{HasDevices};
 
-use crate::answer::Answer;
-use crate::book::{Case, numbers_of};
 use crate::devices::digest_of;
-use crate::error::OutOfMemory;
-use crate::stores::{answer_store, put_held};
 use crate::tables::query_of;
+use keep_casebook::{Answer, Case, OutOfMemory, answer_store, numbers_of, put_held};
 use keep_cluster::{Cluster, device_rules};
 use keep_config::Config;
 use keep_event::{Answer as Reply, FailingPort, Port, PortError, Query, TableQuery};

@@ -1,6 +1,5 @@
 // Small texts, one a line, each read and written again, or `none`: `digests`, `portables` (portable data hashes) and `uuids` (with the middle part).
-use crate::answer::Answer;
-use crate::book::Case;
+use keep_casebook::{Answer, Case};
 use keep_spec::{Digest, Portable, Uuid};
 
 pub fn answer(subject: &str, case: &Case, answer: &mut Answer) {

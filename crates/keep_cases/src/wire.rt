@@ -2,10 +2,9 @@
 // the input ends after a whole message or within one, each of these once more with a read after the last byte that fails: then the same messages come
 // before that fault. A reading that differs from that of the whole adds a line. `cuts few` cuts at a few places alone, for long inputs, and `cuts none`
 // nowhere. With `failing N` the N-th read fails, and nothing else is read.
-use crate::answer::Answer;
-use crate::book::Case;
 use crate::pieces::Pieces;
 use keep_base::Bytes;
+use keep_casebook::{Answer, Case};
 use keep_wire::{Replies, Request, Requests, Response, WireError};
 use std::alloc::Global;
 

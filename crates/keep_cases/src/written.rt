@@ -1,7 +1,6 @@
 // Messages of HTTP as they are written. Each line of the input names one of the messages below; the answer is its text, whose lines end with a carriage return and a newline.
-use crate::answer::Answer;
-use crate::book::Case;
 use keep_base::Bytes;
+use keep_casebook::{Answer, Case};
 use keep_spec::NoMemory;
 use keep_wire::{write_request, write_response};
 use std::alloc::Global;

@@ -3,12 +3,9 @@
 // what the line prints, and `taken`, or `refused` where it is no script line.
 // Settings: `words` (`run` where there is none), `stores` (how many, 1), `held NUMBER ..` (what the store with this number holds before), `note NUMBER ROUND`,
 // `store_fails`, `source_fails`, `sink_fails` (the numbers of the calls that fail, of each store).
-use crate::answer::Answer;
-use crate::book::{Case, numbers_of};
-use crate::error::OutOfMemory;
 use crate::statuses::add_status;
-use crate::stores::{answer_store, put_held};
 use keep_base::{ByteSink, ByteSource};
+use keep_casebook::{Answer, Case, OutOfMemory, answer_store, numbers_of, put_held};
 use keep_run::run_call;
 use keep_spec::{Bytes, Status};
 use keep_store::{MemoryStore, Store};

@@ -1,6 +1,5 @@
 // Statuses, one a line: a word and its numbers. The exit status of the program, and its words.
-use crate::answer::Answer;
-use crate::book::Case;
+use keep_casebook::{Answer, Case};
 use keep_spec::{AuditFault, Status};
 use std::alloc::Global;
 use std::str::from_utf8;
