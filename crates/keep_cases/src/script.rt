@@ -1,6 +1,7 @@
 // Script lines, each read by itself: its command, or `none`. The first line of the input is the configuration. Settings say what has become of names:
-// `open NAME`, `ended NAME`, `located NAME LOCATOR`, `row NAME TEXT`. A command is written with its name and its reading, an opening with the kind and the
-// fields of its line in their order: texts in quotes, bytes and digests as digits, and a dash for one that isn't given.
+// `open NAME`, `ended NAME`, `located NAME LOCATOR`, `row NAME TEXT`. A command is written with its name and its reading, an opening with the kind and its
+// fields in the order of the formats, an update's collection and `preserve` last: texts in quotes, bytes and digests as digits, a dash for one that isn't
+// given.
 use keep_casebook::{Answer, Case, OutOfMemory, Setting};
 use keep_config::Config;
 use keep_event::SaveRequest;
