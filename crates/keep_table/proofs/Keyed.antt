@@ -151,6 +151,19 @@ pub rewritten : {X : Type 0} (key : X → ℕ) (k : ℕ) (f : X → X) (y : X) (
     es' ≡ set_value (is_at (nat_cmp k)) es (f y) → es' ≡ keyed key (map (λ x. cond (nat_eq (key x) k) (f x) x) (values_of es))
 rewritten key k f y es es' same e h there is = is ∙ ap (λ fs. set_value (is_at (nat_cmp k)) fs (f y)) e ∙ change-keyed key k 0 f y (values_of es) same h (sym (found key k es e) ∙ there)
 
+cond-same : {X : Type 0} (b : Bool) (x : X) → cond b x x ≡ x
+cond-same true x = refl
+cond-same false x = refl
+
+map-same : {X : Type 0} (p : X → Bool) (xs : List X) → map (λ x. cond (p x) x x) xs ≡ xs
+map-same p [] = refl
+map-same p (x ∷ xs) = rw (cond-same (p x) x, map-same p xs) refl
+
+-- the value that the key has is written again
+pub put-back : {X : Type 0} (key : X → ℕ) (k : ℕ) (y : X) (es es' : List (ℕ × X)) → es ≡ keyed key (values_of es) → RisesAbove 0 (map key (values_of es)) → lookup (is_at (nat_cmp k)) es ≡ Some y →
+    es' ≡ set_value (is_at (nat_cmp k)) es y → es' ≡ es
+put-back key k y es es' e h there is = rewritten key k (λ x. x) y es es' (λ x. refl) e h there is ∙ ap (λ xs. keyed key xs) (map-same (λ x. nat_eq (key x) k) (values_of es)) ∙ sym e
+
 pub filtered : {X : Type 0} (key : X → ℕ) (q : X → Bool) (es es' : List (ℕ × X)) → es ≡ keyed key (values_of es) → es' ≡ filter (λ e. q e.1) es → es' ≡ keyed key (filter q (values_of es))
 filtered key q es es' e is = is ∙ ap (λ fs. filter (λ e. q e.1) fs) e ∙ filter-keyed key q (values_of es)
 

@@ -1,4 +1,7 @@
 pub mod Counts
+pub mod Due
+pub mod Few
+pub mod Held
 pub mod Keyed
 pub mod Mentions
 pub mod Newest

@@ -1,16 +1,19 @@
 -- A record that becomes the current one of its collection, after those that are due are gone.
-use Rattle.std.proofs.Common.{◌≡◌, ◌<◌, ◌≤◌, ◌+◌, ◌++◌, ℕ, List, [], ◌∷◌, Bool, true, false, cond, not, map, filter, count_by, nat_eq, Option, Some, None, refl, ap, sym, ◌∙◌, arith}
+use Rattle.std.proofs.Common.{◌≡◌, ◌<◌, ◌≤◌, ◌+◌, ◌++◌, ◌&&◌, ◌||◌, ℕ, List, [], ◌∷◌, Bool, true, false, cond, not, map, filter, count_by, nat_eq, Option, Some, None, refl, ap, sym, ◌∙◌, arith}
+use Rattle.std.specs.Prelude.{nat_lt}
 use Rattle.std.specs.List.{find, AllByRecursion}
 use Rattle.std.specs.Option.{option_map_or}
-use Rattle.std.proofs.lemmas.Bool.{ne_eqb, eq-eqb, and_right}
+use Rattle.std.proofs.lemmas.Bool.{ne_eqb, eq-eqb, and_right, and_parts, or_right, le-ltb}
 use Rattle.std.proofs.lemmas.List.{map-append}
 use Rattle.std.proofs.lemmas.List.Elements.{filter-append}
-use Rattle.keep_event.specs.Table.{is_current, is_current_of, is_due, is_due_of, is_of, superseded}
+use Rattle.keep_spec.specs.Times.{grace}
+use Rattle.keep_event.specs.Table.{is_current, is_current_of, is_due, is_due_of, is_of, superseded, kept_until}
+use Rattle.keep_event.specs.declared.table.TableRules.{TableRules}
 use Rattle.keep_event.specs.declared.table.Standing.{Standing}
 use Rattle.keep_event.specs.declared.table.Standing.TheVariants.{Current, Kept, Preserved}
 use Rattle.keep_event.specs.declared.table.Record.{Record}
 use Rattle.keep_table.specs.Contents.{RisesAbove}
-use Rattle.keep_table.specs.Maps.{marked, revisions_of}
+use Rattle.keep_table.specs.Maps.{marked, standing_as, revisions_of, AreCurrentAt}
 use Rattle.keep_table.proofs.Counts.{count-cons, bit}
 use Rattle.keep_table.proofs.Steps.{found-above}
 
@@ -81,3 +84,40 @@ renewed reading standing rs row e pos newest h one =
     ap (λ xs. map (marked v standing) xs) (filter-append q rs (row ∷ [])) ∙ map-append (marked v standing) (filter q rs) (filter q (row ∷ []))
     ∙ ap (λ xs. xs ++ map (marked v standing) (filter q (row ∷ []))) (marks-supersede n v standing (filter q rs) (filter-marked n v q rs (current-marked n 0 rs h one)))
     ∙ ap (λ xs. map (superseded n standing) (filter q rs) ++ xs) (last-kept reading v standing row e (found-below (is_current_of n) row.revision rs pos newest))
+
+-- ---- the record that is marked
+
+current-where : (b c t : Bool) → b ≡ (c && t) → (not b || t) ≡ true
+current-where true c t e = (and_parts c t (sym e)).1
+current-where false c t e = refl
+
+pub marked-current : (n v : ℕ) (rs : List Record) (row : Record) → is_current row.standing ≡ true → AreMarkedAt n v rs → AreCurrentAt v (rs ++ row ∷ [])
+marked-current n v [] row e h = (or_right (not (nat_eq row.revision v)) (is_current row.standing) e, tt)
+marked-current n v (r ∷ rs) row e h = (current-where (nat_eq r.revision v) (is_of n r) (is_current r.standing) h.0, marked-current n v rs row e h.1)
+
+-- a mark of a standing that isn't due changes nothing of what is due
+pub due-marked : (reading n v : ℕ) (standing : Standing) (rs : List Record) → is_due reading standing ≡ false → AreCurrentAt v rs →
+    filter (λ r. not (is_due_of reading n r)) (map (marked v standing) rs) ≡ map (marked v standing) (filter (λ r. not (is_due_of reading n r)) rs)
+due-marked reading n v standing [] later h = refl
+due-marked reading n v standing (r ∷ rs) later h = rw (same (nat_eq r.revision v) h.0, due-marked reading n v standing rs later h.1) (kept (not (is_due_of reading n r)) (filter (λ r. not (is_due_of reading n r)) rs))
+  where
+    same : (b : Bool) → (not b || is_current r.standing) ≡ true → is_due_of reading n (cond b (standing_as standing r) r) ≡ is_due_of reading n r
+    same true current = rw (later, not-due reading r.standing current) refl
+    same false current = refl
+
+    kept : (b : Bool) (xs : List Record) → cond b (marked v standing r ∷ map (marked v standing) xs) (map (marked v standing) xs) ≡ map (marked v standing) (cond b (r ∷ xs) xs)
+    kept true xs = refl
+    kept false xs = refl
+
+-- a record that was just added is taken out again
+pub renewal-undone : (rs : List Record) (row : Record) → AllByRecursion (λ r. r.revision < row.revision) rs → filter (λ r. not (nat_eq r.revision row.revision)) (rs ++ row ∷ []) ≡ rs
+renewal-undone [] row h = rw (eq-eqb row.revision row.revision refl) refl
+renewal-undone (r ∷ rs) row h = rw (ne_eqb r.revision row.revision (λ e. omega (arith, h.0))) (ap (λ xs. r ∷ xs) (renewal-undone rs row h.1))
+
+past : (reading more : ℕ) → nat_lt (reading + more) reading ≡ false
+past reading more = le-ltb (reading + more) reading (omega arith)
+
+-- what is kept is kept to the reading and past it
+pub kept-later : (rules : TableRules) (reading : ℕ) (preserve : Bool) → is_due reading (kept_until rules reading preserve) ≡ false
+kept-later rules reading true = refl
+kept-later rules reading false = past reading (grace rules.ttl rules.skew)

@@ -1,10 +1,10 @@
 -- A walk over records in the order of their revisions.
-use Rattle.std.proofs.Common.{◌≡◌, max, ◌<◌, ◌+◌, ◌&&◌, ◌||◌, ℕ, List, [], ◌∷◌, Bool, true, false, not, map, filter, length, nat_eq, Option, Some, None, refl, ap, sym, ◌∙◌, ◌++◌, append_assoc, append-nil, length-append, arith}
+use Rattle.std.proofs.Common.{◌≡◌, max, ◌<◌, ◌+◌, ◌&&◌, ◌||◌, ℕ, List, [], ◌∷◌, Bool, true, false, map, filter, length, nat_eq, Option, Some, None, refl, ap, sym, ◌∙◌, ◌++◌, append_assoc, append-nil, length-append, arith}
 use Rattle.std.specs.Prelude.{count_by}
 use Rattle.std.specs.List.{find}
 use Rattle.std.proofs.lemmas.Bool.{and_parts, cond-true, cond-false}
 use Rattle.std.proofs.lemmas.List.Sums.{length-filter}
-use Rattle.keep_event.specs.Table.{is_of, is_readable, is_current, is_preserved, is_due, is_held, is_due_of, row_of, rows_above}
+use Rattle.keep_event.specs.Table.{is_of, is_readable, is_current, is_preserved, row_of, rows_above}
 use Rattle.keep_event.specs.declared.table.Record.{Record}
 use Rattle.keep_event.specs.declared.table.ScanRow.{ScanRow}
 use Rattle.keep_table.specs.Contents.{RisesAbove}
@@ -51,12 +51,6 @@ found-none b p a rs wider h e same = sym (find-first p rs ∙ ap first (sym (lat
 pub readable-of : (number : ℕ) (version : Option ℕ) (r : Record) → is_readable number version r ≡ true → is_of number r ≡ true
 readable-of number None r e = and-first (is_of number r) (is_current r.standing) e
 readable-of number (Some v) r e = and-first (is_of number r) (nat_eq r.version v) (and-first (is_of number r && nat_eq r.version v) (is_current r.standing || is_preserved r.standing) e)
-
-pub held-of : (reading number : ℕ) (r : Record) → is_held reading number r ≡ true → is_of number r ≡ true
-held-of reading number r e = and-first (is_of number r) (not (is_current r.standing)) (and-first (is_of number r && not (is_current r.standing)) (not (is_due reading r.standing)) e)
-
-pub due-of : (reading number : ℕ) (r : Record) → is_due_of reading number r ≡ true → is_of number r ≡ true
-due-of reading number r e = and-first (is_of number r) (is_due reading r.standing) e
 
 -- ---- scans
 

@@ -1,5 +1,5 @@
 -- What contracts see of a table (its rules and the table machine's state), the invariant of its records and collections, and what a call does.
-use Rattle.std.specs.Prelude.{◌≡◌, ◌≤◌, ◌<◌, ⊤, ℕ, Bool, true, false, not, List, [], ◌∷◌, map, Result, Ok, Err}
+use Rattle.std.specs.Prelude.{◌≡◌, ◌≤◌, ◌<◌, ◌&&◌, ⊤, ℕ, Bool, true, false, not, List, [], ◌∷◌, map, count_by, Result, Ok, Err}
 use Rattle.std.specs.List.{AllByRecursion, list_any}
 use Rattle.keep_spec.specs.declared.memory.NoMemory.{NoMemory}
 use Rattle.keep_event.specs.declared.table.TableRules.{TableRules}
@@ -34,6 +34,14 @@ pub record AreOrderly (numbers revisions : ℕ) (rs : List Record) : Type 0 wher
 -- no collection's number is above those that were drawn
 abbrev pub AreDrawn : ℕ → List Collection → Type 0
 AreDrawn numbers xs = AllByRecursion (λ x. x.number ≤ numbers) xs
+
+-- a record of a collection that isn't its current one
+abbrev pub is_version_of : ℕ → Record → Bool
+is_version_of number r = is_of number r && not (is_current r.standing)
+
+-- no collection has more versions than this
+abbrev pub AreFew : ℕ → List Record → Type 0
+AreFew versions rs = (number : ℕ) → count_by (is_version_of number) rs ≤ versions
 
 pub record Contents : Type 0 where
   pub rules : TableRules

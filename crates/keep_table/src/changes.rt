@@ -1,10 +1,10 @@
 // What the calls of the table do to its records and collections.
-ghost use Rattle.std.specs.Prelude.{◌≡◌, ◌==◌, ◌<◌, ◌≤◌, ◌*◌, ◌/◌, ◌^◌, ◌++◌, ◌∷◌, [], length, take, nat_lt, nat_le, Option, option_map, IfOk, map, Some, None, count_by, filter, not, ◌&&◌, true, is_ok, if◌then◌else◌};
+ghost use Rattle.std.specs.Prelude.{◌≡◌, ◌==◌, ◌<◌, ◌≤◌, ◌*◌, ◌/◌, ◌^◌, ◌++◌, ◌∷◌, [], length, take, nat_lt, nat_le, Option, option_map, IfOk, map, Some, None, count_by, filter, not, ◌&&◌, true, false, is_ok, if◌then◌else◌};
 ghost use Rattle.std.specs.List.{find, AllByRecursion};
 ghost use Rattle.std.specs.Option.{option_map_or};
 ghost use Rattle.keep_event.specs.Table as machine;
 ghost use Rattle.keep_spec.specs.Times.{IsReading};
-ghost use Rattle.keep_table.specs.Contents.{RisesAbove, AreSuperseded};
+ghost use Rattle.keep_table.specs.Contents.{RisesAbove, AreSuperseded, AreFew};
 ghost use Rattle.keep_table.specs.Maps.{revisions_of};
 
 use crate::collections::Collections;
@@ -56,25 +56,18 @@ pub(crate) fn is_due(reading: u64, standing: &Standing) -> bool
     }
 }
 
-/// Returns how many versions of a collection aren't due at a reading.
-pub(crate) fn versions_held(records: &Records, reading: u64, number: u64) -> u64
-    ensures { result ≡ count_by (machine.is_held reading number) records.now }
+/// Returns how many versions of a collection aren't due at a reading, where they are as many as the rules allow. A collection has no more than that, so where one of them is due the others are fewer.
+pub(crate) fn too_many(records: &Records, versions: u64, reading: u64, number: u64) -> Option<u64>
+    requires superseded { AreSuperseded records.now }
+    requires few { AreFew versions records.now }
+    ensures { result ≡ (if nat_le versions (count_by (machine.is_held reading number) records.now) then Some (count_by (machine.is_held reading number) records.now) else None) }
 {
-    let mut held = 0;
-    let mut after = 0;
-    while let Some(row) = records.next_of(number, after) {
-        after = row.revision;
-        if is_held(reading, number, row) {
-            held += 1;
-        }
+    let held = records.versions_of(number);
+    if held >= versions && records.first_due(number, reading).is_none() {
+        Some(held)
+    } else {
+        None
     }
-    held
-}
-
-fn is_held(reading: u64, number: u64, row: &Record) -> bool
-    ensures { result ≡ machine.is_held reading number row.now }
-{
-    row.collection == number && !is_current(&row.standing) && !is_due(reading, &row.standing)
 }
 
 pub(crate) fn is_in_trash(reading: u64, collection: &Collection) -> bool
@@ -126,35 +119,29 @@ pub(crate) fn renew(
     requires rising { RisesAbove 0 (revisions_of records.old) }
     requires current { machine.is_current row.standing ≡ true }
     requires superseded { AreSuperseded records.old }
+    requires later { machine.is_due reading standing ≡ false }
     ensures { records.new ≡ (if is_ok result then map (machine.superseded row.collection standing) (filter (λ r. not (machine.is_due_of reading row.collection r)) records.old) ++ row ∷ [] else records.old) }
 {
     let number = row.collection;
+    let revision = row.revision;
     let before = current_revision(records, number);
     if records.add(row).is_err() {
         return Err(NoMemory);
     }
+    if records.mark(before, standing).is_err() {
+        records.drop_one(revision);
+        return Err(NoMemory);
+    }
     drop_due(records, reading, number);
-    records.mark(before, standing);
     Ok(())
-}
-
-fn is_due_of(reading: u64, number: u64, row: &Record) -> bool
-    ensures { result ≡ machine.is_due_of reading number row.now }
-{
-    row.collection == number && is_due(reading, &row.standing)
 }
 
 /// Removes the versions of a collection that are due at a reading.
 fn drop_due(records: &mut Records, reading: u64, number: u64)
-    requires { RisesAbove 0 (revisions_of records.old) }
     ensures { records.new ≡ filter (λ r. not (machine.is_due_of reading number r)) records.old }
 {
-    let mut after = 0;
-    while let Some(row) = records.next_of(number, after) {
-        after = row.revision;
-        if is_due_of(reading, number, row) {
-            records.drop_one(after);
-        }
+    while let Some(revision) = records.first_due(number, reading) {
+        records.drop_one(revision);
     }
 }
 

@@ -3,7 +3,9 @@
 
 mod changes;
 mod collections;
+mod kept;
 mod records;
+mod sizes;
 mod table;
 mod wants;
 

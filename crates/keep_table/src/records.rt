@@ -1,11 +1,13 @@
-// The records of a table: an ordered map by revision, and beside it the revisions of each collection and what is wanted of each digest.
-ghost use Rattle.std.specs.Prelude.{◌≡◌, ◌==◌, ◌<◌, ◌^◌, ◌++◌, ◌∷◌, [], not, map, filter, length, option_map, is_ok, if◌then◌else◌};
-ghost use Rattle.std.specs.List.{find, AllByRecursion};
-ghost use Rattle.keep_event.specs.Table.{is_of, is_current_of, row_of};
+// The records of a table: an ordered map by revision, and beside it the revisions of each collection, how many they are, those that are kept for a time, and what is wanted of each digest.
+ghost use Rattle.std.specs.Prelude.{◌≡◌, ◌==◌, ◌<◌, ◌^◌, ◌++◌, ◌∷◌, [], true, not, map, filter, length, count_by, option_map, is_ok, is_some, IfSome, IsTrue, if◌then◌else◌};
+ghost use Rattle.std.specs.List.{find, list_any, AllByRecursion};
+ghost use Rattle.keep_event.specs.Table.{is_of, is_current, is_current_of, is_due_of, row_of};
 ghost use Rattle.keep_event.specs.Plan.{wanted_in};
-ghost use Rattle.keep_table.specs.Contents.{RisesAbove, AreSuperseded};
-ghost use Rattle.keep_table.specs.Maps.{is_next, any_record, marked, revisions_of};
+ghost use Rattle.keep_table.specs.Contents.{RisesAbove, AreSuperseded, is_version_of};
+ghost use Rattle.keep_table.specs.Maps.{is_next, any_record, marked, revisions_of, is_due_at, AreCurrentAt};
 
+use crate::kept::Kept;
+use crate::sizes::Sizes;
 use crate::wants::Wants;
 use keep_event::{Record, Standing};
 use keep_spec::{Digest, NoMemory};
@@ -21,6 +23,10 @@ pub(crate) struct Records {
     rows: BTreeMap<u64, Record>,
     // the number of each record's collection, with its revision
     places: BTreeSet<(u64, u64)>,
+    // how many records each collection has: its versions and its current one
+    sizes: Sizes,
+    // the versions that are kept for a time
+    kept: Kept,
     // what the records want of the digests that they name
     wants: Wants,
 }
@@ -35,7 +41,7 @@ impl Model for Records {
 
     ghost view = { λ t. values_of t.rows.entries };
 
-    ghost invariant = { λ t. AreIndexed t.rows.entries t.places t.wants };
+    ghost invariant = { λ t. AreIndexed t.rows.entries t.places t.sizes t.kept t.wants };
 }
 
 // A record's place: the number of its collection, and its revision.
@@ -54,6 +60,8 @@ impl Records {
         Records {
             rows: BTreeMap::new(alloc),
             places: BTreeSet::new(alloc),
+            sizes: Sizes::new(alloc),
+            kept: Kept::new(alloc),
             wants: Wants::new(alloc),
         }
     }
@@ -111,6 +119,26 @@ impl Records {
         self.rows.get(&revision)
     }
 
+    /// Returns how many versions a collection has besides its current record.
+    pub(crate) fn versions_of(&self, number: u64) -> u64
+        requires { AreSuperseded self.now }
+        ensures { result ≡ count_by (is_version_of number) self.now }
+    {
+        self.sizes.get(number).saturating_sub(1)
+    }
+
+    /// Returns the revision of a version of a collection that is due at a reading.
+    pub(crate) fn first_due(&self, number: u64, reading: u64) -> Option<u64>
+        ensures due { IfSome result (λ v. IsTrue (list_any (is_due_at reading number v) self.now)) }
+        ensures some { is_some result ≡ list_any (is_due_of reading number) self.now }
+        ensures rising { RisesAbove 0 (revisions_of self.now) }
+    {
+        match self.kept.first_due(number, reading) {
+            Some((_, revision)) => Some(revision),
+            None => None,
+        }
+    }
+
     /// Returns the greatest number of copies that the records want of a digest, or 0 where none names it. Takes no memory.
     pub(crate) fn wanted(&self, digest: &Digest) -> u8
         ensures { result ≡ wanted_in digest.now (map row_of self.now) }
@@ -118,21 +146,27 @@ impl Records {
         self.wants.greatest(digest)
     }
 
-    /// Adds a record whose revision is above all others. Where memory is refused, nothing changes.
+    /// Adds a current record whose revision is above all others. Where memory is refused, nothing changes.
     pub(crate) fn add(&mut self, row: Record) -> Result<(), NoMemory>
         requires positive { 0 < row.revision }
         requires newest { AllByRecursion (λ r. r.revision < row.revision) self.old }
+        requires current { is_current row.standing ≡ true }
         ensures { self.new ≡ (if is_ok result then self.old ++ row ∷ [] else self.old) }
     {
         let place = place_of(row.collection, row.revision);
         let Ok(_) = self.places.insert(place) else {
             return Err(NoMemory);
         };
+        if self.sizes.raise(row.collection).is_err() {
+            self.places.remove(&place);
+            return Err(NoMemory);
+        }
         if self
             .wants
             .add(row.made.named.as_slice(), row.made.want)
             .is_err()
         {
+            self.sizes.lower(row.collection);
             self.places.remove(&place);
             return Err(NoMemory);
         }
@@ -141,6 +175,7 @@ impl Records {
         };
         let (_, back) = refused.value;
         self.wants.take(back.made.named.as_slice(), back.made.want);
+        self.sizes.lower(back.collection);
         self.places.remove(&place);
         Err(NoMemory)
     }
@@ -152,16 +187,25 @@ impl Records {
         let Some(row) = self.rows.remove(&revision) else {
             return;
         };
-        self.places.remove(&(row.collection, revision));
+        let number = row.collection;
+        self.places.remove(&(number, revision));
+        self.sizes.lower(number);
+        self.kept.remove(number, revision, row.standing);
         self.wants.take(row.made.named.as_slice(), row.made.want);
     }
 
-    /// Gives the record with this revision, where there is one, another standing.
-    pub(crate) fn mark(&mut self, revision: u64, standing: Standing)
-        ensures { self.new ≡ map (marked revision standing) self.old }
+    /// Gives the current record with this revision, where there is one, another standing. Where memory is refused, nothing changes.
+    pub(crate) fn mark(&mut self, revision: u64, standing: Standing) -> Result<(), NoMemory>
+        requires { AreCurrentAt revision self.old }
+        ensures { self.new ≡ (if is_ok result then map (marked revision standing) self.old else self.old) }
     {
-        if let Some(row) = self.rows.get_mut(&revision) {
-            row.standing = standing;
+        let Some(row) = self.rows.get_mut(&revision) else {
+            return Ok(());
+        };
+        if self.kept.add(row.collection, revision, standing).is_err() {
+            return Err(NoMemory);
         }
+        row.standing = standing;
+        Ok(())
     }
 }

@@ -21,13 +21,13 @@ pub struct Table {
 }
 
 impl Model for Table {
-    ghost use Rattle.keep_table.specs.Contents.{Contents, AreOrderly, AreDrawn};
+    ghost use Rattle.keep_table.specs.Contents.{Contents, AreOrderly, AreDrawn, AreFew};
 
     ghost Value = { Contents };
 
     ghost view = { λ t. record { rules = t.rules; state = record { records = t.records; collections = t.collections; numbers = t.numbers; revisions = t.revisions; rounds = t.rounds } } };
 
-    ghost invariant = { λ t. AreOrderly t.numbers t.revisions t.records × AreDrawn t.numbers t.collections };
+    ghost invariant = { λ t. AreOrderly t.numbers t.revisions t.records × AreDrawn t.numbers t.collections × AreFew t.rules.versions t.records };
 }
 
 impl Table {
@@ -227,8 +227,8 @@ impl Table {
         if let Err(refusal) = self.updatable(reading, token, collection) {
             return Ok(refusal);
         }
-        let held = changes::versions_held(&self.records, reading, collection);
-        if held >= u64::from(self.rules.versions) {
+        let versions = u64::from(self.rules.versions);
+        if let Some(held) = changes::too_many(&self.records, versions, reading, collection) {
             return Ok(TableAnswer::TooManyVersions { held });
         }
         let portable = made.portable;

@@ -1,13 +1,10 @@
-use Rattle.std.proofs.Common.{◌≡◌, length, filter}
-use Rattle.keep_event.specs.Table.{is_due_of, is_of}
-use Rattle.keep_table.specs.Maps.{is_next}
-use Rattle.keep_table.proofs.Steps.{keeps}
-use Rattle.keep_table.proofs.Walks.{revision}
+use Rattle.std.proofs.Common.{◌≡◌, length, filter, not}
+use Rattle.keep_event.specs.Table.{is_due_of}
 use Rattle.keep_table.proofs.changes.drop_due.Given as goal
 
--- those that are due are out, as far as the last one
-abbrev pub invariant-loop-row : goal.invariant-loop-row
-invariant-loop-row l = l.records ≡ filter (keeps revision (is_due_of l.reading l.number) l.after) l.fn.records
+-- those that aren't due are still there
+abbrev pub invariant-loop-revision : goal.invariant-loop-revision
+invariant-loop-revision l = filter (λ r. not (is_due_of l.reading l.number r)) l.records ≡ filter (λ r. not (is_due_of l.reading l.number r)) l.fn.records
 
-abbrev pub decreases-loop-row : goal.decreases-loop-row
-decreases-loop-row l = length (filter (is_next (is_of l.number) l.after) l.fn.records)
+abbrev pub decreases-loop-revision : goal.decreases-loop-revision
+decreases-loop-revision l = length l.records

@@ -1,6 +1,7 @@
 use Rattle.std.proofs.Common.{◌≡◌, ◌+◌, ◌++◌, ◌∷◌, [], refl, arith, ◌∙◌, ap, not, filter, is_ok, nat_eq}
 use Rattle.std.proofs.lemmas.Bool.{cond-true, cond-false}
 use Rattle.keep_event.specs.Table as machine
+use Rattle.keep_table.proofs.Few.{few-pushed}
 use Rattle.keep_table.proofs.Orderly.{orderly-created, collections-created, collection-undone}
 use Rattle.keep_table.proofs.table.Table.create.Goals as goal
 
@@ -25,4 +26,5 @@ invariant_of-self-2 c =
     rw (collections, records) (
       orderly-created c.self.inside.numbers c.self.inside.revisions c.self.inside.records _ refl refl (omega arith) refl c.self.invariant.0,
       collections-created c.self.inside.numbers c.self.inside.collections _ refl c.self.invariant.1,
+      few-pushed c.self.inside.rules.versions c.self.inside.records _ refl c.self.invariant.2,
     )
