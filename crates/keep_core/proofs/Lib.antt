@@ -30,6 +30,8 @@ pub mod Unheld
 pub mod Unlisted
 pub mod Texts
 pub mod HeldVersions
+pub mod Sweeps
+pub mod HeldDigests
 pub mod Reversed
 pub mod LiveDigests
 pub mod HeldNowhere

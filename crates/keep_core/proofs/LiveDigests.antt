@@ -1,6 +1,6 @@
 -- The digests of held versions (`named_as`) and of live signatures (`live-as`), event by event; that the protected digests are theirs, in any order (`to-protected`, `from-protected`); members of two kinds (`in-contains`, `contains-in`).
 use Rattle.std.proofs.Common.{◌≡◌, ◌≤◌, ℕ, zero, suc, List, [], ◌∷◌, ◌++◌, map, filter, length, reverse, take, Bool, true, false, cond, ◌&&◌, refl, sym, ◌∙◌, ap, subst, arith, inl, inr, Option, None, Some, is_some}
-use Rattle.std.specs.Prelude.{◌⊎◌}
+use Rattle.std.specs.Prelude.{◌⊎◌, ◌↔◌}
 use Rattle.std.specs.List.{flat_map, Contains}
 use Rattle.std.proofs.lemmas.List.{reverse-append, reverse-reverse, map-append}
 use Rattle.std.proofs.lemmas.List.Elements.{filter-append, Contains-append_left, Contains-append_right, Contains-append_cases, Contains-push_cases, Contains-push}
@@ -158,28 +158,28 @@ in-contains h [] i = absurd i
 in-contains h (x ∷ xs) (inl e) = subst (λ v. Contains (x ∷ xs) v) (sym e) (Contains-append_left (x ∷ []) xs x (Contains-push [] x))
 in-contains h (x ∷ xs) (inr i) = Contains-append_right (x ∷ []) xs h (in-contains h xs i)
 
--- ---- what is protected, in the order of the events
-module _ (c : Configuration) (events : List Event) (h : List ℕ) where
+-- ---- what is protected, in the order of the events, with the digests that held versions name in any order
+module _ (c : Configuration) (events : List Event) (held : List (List ℕ)) (named : (h : List ℕ) → IsIn h held ↔ IsIn h (refs c (reverse events))) (h : List ℕ) where
   abbrev past : Past
   past = reverse events
 
   abbrev here : List (List ℕ)
-  here = refs c past ++ flat_map (live_of c (now past)) events
+  here = held ++ flat_map (live_of c (now past)) events
 
   signed-to : Joins (live_of c (now past)) h events → IsIn h (protected c past)
   signed-to j = in-right h (refs c past) (map (λ (s : Signature). s.digest) (live c past)) (subst (λ (v : List (List ℕ)). IsIn h v) (sym (live-as c (now past) past)) (joined-in (live_of c (now past)) j.from h past (in-reverse j.from events j.member) j.has))
 
   pub to-protected : IsIn h here → IsIn h (protected c past)
-  to-protected i = elim (in-either h (refs c past) (flat_map (live_of c (now past)) events) i) [
-    | inl r ↦ in-left h (refs c past) (map (λ (s : Signature). s.digest) (live c past)) r
+  to-protected i = elim (in-either h held (flat_map (live_of c (now past)) events) i) [
+    | inl r ↦ in-left h (refs c past) (map (λ (s : Signature). s.digest) (live c past)) ((named h).0 r)
     | inr s ↦ signed-to (in-joined (live_of c (now past)) h events s)
   ]
 
   signed-from : Joins (live_of c (now past)) h past → IsIn h here
-  signed-from j = in-right h (refs c past) (flat_map (live_of c (now past)) events) (joined-in (live_of c (now past)) j.from h events (in-reversed j.from events j.member) j.has)
+  signed-from j = in-right h held (flat_map (live_of c (now past)) events) (joined-in (live_of c (now past)) j.from h events (in-reversed j.from events j.member) j.has)
 
   pub from-protected : IsIn h (protected c past) → IsIn h here
   from-protected i = elim (in-either h (refs c past) (map (λ (s : Signature). s.digest) (live c past)) i) [
-    | inl r ↦ in-left h (refs c past) (flat_map (live_of c (now past)) events) r
+    | inl r ↦ in-left h held (flat_map (live_of c (now past)) events) ((named h).1 r)
     | inr s ↦ signed-from (in-joined (live_of c (now past)) h past (subst (λ (v : List (List ℕ)). IsIn h v) (live-as c (now past) past) s))
   ]

@@ -4,14 +4,13 @@ ghost use Rattle.std.specs.List.Sorted.{IsStrictlySortedBy};
 ghost use Rattle.std.specs.Ordering.{nat_cmp};
 ghost use Rattle.std.specs.Cmp.Lexicographic.{slice_cmp};
 ghost use Rattle.keep_spec.specs.Times.{expiry_at};
-ghost use Rattle.keep_core.specs.Rows.{refs};
-ghost use Rattle.keep_core.specs.Seen.{named_by, is_live_at, live_of, live_put, live_read, put_digest};
+ghost use Rattle.keep_core.specs.Seen.{is_live_at, live_of, live_put, live_read, put_digest};
 ghost use Rattle.keep_core.specs.Signatures.{digest_named};
 ghost use Rattle.keep_core.specs.Times.{now};
 ghost use Rattle.keep_core.specs.Unheld.{protected_digests};
 
 use crate::digests::digests_of;
-use crate::held::versions;
+use crate::held::referred;
 use keep_config::Config;
 use keep_event::{Answer, DeviceAnswer, DeviceQuery, Event, Query, TableAnswer, TableQuery};
 use keep_spec::{Digest, NANOS_PER_SECOND, NoMemory};
@@ -27,18 +26,6 @@ pub fn protected(alloc: Global, config: &Config, events: &[Event]) -> Result<Vec
     push_signed(alloc, config, latest(events), events, &mut digests)?;
     digests.sort_unstable();
     digests.dedup();
-    Ok(digests)
-}
-
-// The digests that held versions name.
-fn referred(alloc: Global, config: &Config, events: &[Event]) -> Result<Vec<Digest>, NoMemory>
-    ensures { IfOk result (λ v. v.items ≡ refs config.now (reverse events.now)) }
-{
-    let versions = versions(alloc, config, events)?;
-    let mut digests = Vec::new(alloc);
-    for version in &versions {
-        push_all(&mut digests, version.named.as_slice())?;
-    }
     Ok(digests)
 }
 
