@@ -1,6 +1,7 @@
 //! Reads the messages of HTTP/1.x from a source of bytes, and writes them.
 #![tactic(auto)]
 
+mod beginning;
 mod fields;
 mod filling;
 mod head;
@@ -16,6 +17,7 @@ mod session_end;
 mod target;
 mod writing;
 
+pub use beginning::{Beginning, response_beginning};
 pub use keep_base::{Bytes, Source};
 pub use laws::{requests_determined, responses_determined};
 pub use message::{BODY_MAX, FIELDS_MAX, HEAD_MAX, Request, Response, WireError};
