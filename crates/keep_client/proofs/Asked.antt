@@ -5,12 +5,12 @@ use Rattle.std.specs.List.{filter_map, list_all}
 use Rattle.std.proofs.lemmas.List.{take-append-le, take_more}
 use Rattle.std.proofs.lemmas.List.Sums.{count_by-le-length, sum_by-append}
 use Rattle.keep_spec.specs.Causes.{Rose}
-use Rattle.keep_client.specs.declared.look.Said.TheVariants as kind
+use Rattle.keep_client.specs.declared.said.Said.TheVariants as kind
 use Rattle.keep_client.specs.declared.put.PutDone.{PutDone}
 use Rattle.keep_client.specs.declared.put.Tally.{Tally}
 use Rattle.std.proofs.lemmas.List.Elements.{filter_map-append}
 use Rattle.keep_client.specs.declared.link.Exchange.{Exchange}
-use Rattle.keep_client.specs.declared.look.Said.{Said}
+use Rattle.keep_client.specs.declared.said.Said.{Said}
 use Rattle.keep_client.specs.Saying.{Says}
 use Rattle.keep_client.specs.Asking.{IsAsked, AreAsked, HaveSaid}
 use Rattle.std.proofs.lemmas.Bool.{ne_eqb, eqb-true, eqb-false}

@@ -1,4 +1,5 @@
 pub mod Asked
+pub mod Ends
 pub mod Heard
 pub mod Paths
 pub mod Told

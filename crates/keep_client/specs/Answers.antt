@@ -13,8 +13,8 @@ use Rattle.keep_event.specs.Index.{Fault, index_of, bad, cut_off}
 use Rattle.keep_event.specs.declared.lists.Entry.{Entry}
 use Rattle.keep_wire.specs.Written.{is_visible, request_text}
 use Rattle.keep_client.specs.declared.link.Exchange.{Exchange}
-use Rattle.keep_client.specs.declared.look.Said.{Said}
-use Rattle.keep_client.specs.declared.look.Said.TheVariants.{Failed, Broken, Answered}
+use Rattle.keep_client.specs.declared.said.Said.{Said}
+use Rattle.keep_client.specs.declared.said.Said.TheVariants.{Failed, Broken, Answered}
 use Rattle.keep_client.specs.declared.error.ClientError.{ClientError}
 use Rattle.keep_client.specs.declared.error.ClientError.TheVariants as error
 use Rattle.keep_client.specs.declared.put.PutDone.{PutDone}

@@ -1,8 +1,8 @@
 -- What a call has counted of the servers that it asked so far. Inner to this crate.
 use Rattle.std.specs.Prelude.{◌≡◌, ℕ, ◌+◌, ◌==◌, ◌&&◌, Bool, true, false, List, [], length, count_by, None, Some, Result, Ok, Err, if◌then◌else◌}
 use Rattle.std.specs.List.{filter_map, list_all}
-use Rattle.keep_client.specs.declared.look.Said.{Said}
-use Rattle.keep_client.specs.declared.look.Said.TheVariants as said
+use Rattle.keep_client.specs.declared.said.Said.{Said}
+use Rattle.keep_client.specs.declared.said.Said.TheVariants as said
 use Rattle.keep_client.specs.declared.get.Miss.{Miss}
 use Rattle.keep_client.specs.declared.get.Miss.TheVariants as miss
 use Rattle.keep_client.specs.declared.get.Misses.{Misses}

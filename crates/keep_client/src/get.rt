@@ -8,9 +8,9 @@ ghost use Rattle.keep_client.specs.Tallies.{IsHeard};
 
 use crate::error::ClientError;
 use crate::exchange::exchange;
-use crate::link::Link;
-use crate::look::Said;
+use crate::link::{Link, Standing};
 use crate::requests::{get_request, servers_for};
+use crate::said::Said;
 use keep_config::Config;
 use keep_locator::Locator;
 use keep_spec::{Bytes, Digest};
@@ -30,6 +30,7 @@ pub fn get_block<L: Link>(
 ) -> Result<Bytes, ClientError>
     ensures bytes { IfOk result (λ b. md5 b ≡ digest locator.now) }
     ensures answer { IsGetAnswer config.now token.now locator.now (L.told link.old) (L.told link.new) result }
+    ensures closed { L.standing link.old ≡ Standing.Closed → L.standing link.new ≡ Standing.Closed }
     ensures never_falls { L.faults link.old ≤ L.faults link.new }
     ensures cause { IfErr result (λ e. BlamesLink e → Rose (L.faults link.old) (L.faults link.new)) }
 {
@@ -51,6 +52,7 @@ fn get_named<L: Link>(
     requires locator { is_locator locator.now ≡ true }
     ensures bytes { IfOk result (λ b. md5 b ≡ block.now) }
     ensures answer { ButForMemory result (Asks (servers_for config.now block.now) (get_request token.now locator.now) (L.told link.old) (L.told link.new) (λ said. IsGot block.now (length (servers_for config.now block.now)) said result)) }
+    ensures closed { L.standing link.old ≡ Standing.Closed → L.standing link.new ≡ Standing.Closed }
     ensures never_falls { L.faults link.old ≤ L.faults link.new }
     ensures cause { IfErr result (λ e. BlamesLink e → Rose (L.faults link.old) (L.faults link.new)) }
 {
@@ -69,6 +71,7 @@ fn ask_each<L: Link>(
 ) -> Result<Bytes, ClientError>
     ensures bytes { IfOk result (λ b. md5 b ≡ block.now) }
     ensures answer { ButForMemory result (Asks servers.now request.now (L.told link.old) (L.told link.new) (λ said. IsGot block.now (length servers.now) said result)) }
+    ensures closed { L.standing link.old ≡ Standing.Closed → L.standing link.new ≡ Standing.Closed }
     ensures never_falls { L.faults link.old ≤ L.faults link.new }
     ensures cause { IfErr result (λ e. BlamesLink e → Rose (L.faults link.old) (L.faults link.new)) }
 {

@@ -7,9 +7,9 @@ ghost use Rattle.keep_client.specs.Answers.{server_of, IsFetchAnswer, IsFetchedF
 
 use crate::error::ClientError;
 use crate::exchange::exchange;
-use crate::link::Link;
-use crate::look::Said;
+use crate::link::{Link, Standing};
 use crate::requests::index_request;
+use crate::said::Said;
 use keep_config::Config;
 use keep_event::Entry;
 use keep_lists::{IndexError, read_index};
@@ -32,6 +32,7 @@ pub fn fetch_index<L: Link>(
     requires short { length prefix.now ≤ 32 }
     requires digits { list_all is_lower_digit prefix.now ≡ true }
     ensures answer { IsFetchAnswer config.now mount.now round prefix.now (L.told link.old) (L.told link.new) result }
+    ensures closed { L.standing link.old ≡ Standing.Closed → L.standing link.new ≡ Standing.Closed }
     ensures never_falls { L.faults link.old ≤ L.faults link.new }
     ensures cause { IfErr result (λ e. BlamesLink e → Rose (L.faults link.old) (L.faults link.new)) }
 {
@@ -49,6 +50,7 @@ fn fetch_from<L: Link>(
     request: &[u8],
 ) -> Result<Vec<Entry>, ClientError>
     ensures answer { IsFetchedFrom server request.now (L.told link.old) (L.told link.new) result }
+    ensures closed { L.standing link.old ≡ Standing.Closed → L.standing link.new ≡ Standing.Closed }
     ensures never_falls { L.faults link.old ≤ L.faults link.new }
     ensures cause { IfErr result (λ e. BlamesLink e → Rose (L.faults link.old) (L.faults link.new)) }
 {
@@ -64,8 +66,8 @@ fn is_mount(mount: &Mount, uuid: &Uuid) -> bool
     mount.uuid.as_bytes().as_slice() == uuid.as_bytes().as_slice()
 }
 
-// The server of a mount.
-fn server_of(config: &Config, mount: &Uuid) -> Option<u32>
+/// The number of the server that has a mount; `None` where the configuration has no such mount.
+pub fn server_of(config: &Config, mount: &Uuid) -> Option<u32>
     ensures { result ≡ server_of config.now mount.now }
 {
     let found = config

@@ -7,9 +7,9 @@ ghost use Rattle.keep_client.specs.Answers.{locator_for, acknowledged, ButForMem
 
 use crate::error::ClientError;
 use crate::exchange::exchange;
-use crate::link::Link;
-use crate::look::Said;
+use crate::link::{Link, Standing};
 use crate::requests::{put_request, servers_for};
+use crate::said::Said;
 use keep_config::Config;
 use keep_event::Block;
 use keep_locator::Locator;
@@ -35,6 +35,7 @@ pub fn put_block<L: Link>(
     copies: u32,
 ) -> Result<PutDone, ClientError>
     ensures answer { IsPutAnswer config.now token.now block.now copies (L.told link.old) (L.told link.new) result }
+    ensures closed { L.standing link.old ≡ Standing.Closed → L.standing link.new ≡ Standing.Closed }
     ensures never_falls { L.faults link.old ≤ L.faults link.new }
     ensures cause { IfErr result (λ e. BlamesLink e → Rose (L.faults link.old) (L.faults link.new)) }
 {
@@ -60,6 +61,7 @@ fn store_on<L: Link>(
     copies: usize,
 ) -> Result<PutDone, ClientError>
     ensures answer { ButForMemory result (Asks servers.now request.now (L.told link.old) (L.told link.new) (λ said. IsPut block.now copies (length servers.now) said result)) }
+    ensures closed { L.standing link.old ≡ Standing.Closed → L.standing link.new ≡ Standing.Closed }
     ensures never_falls { L.faults link.old ≤ L.faults link.new }
     ensures cause { IfErr result (λ e. BlamesLink e → Rose (L.faults link.old) (L.faults link.new)) }
 {
@@ -90,7 +92,7 @@ struct Tally {
 
 impl Tally {
     ghost use Rattle.std.specs.Prelude.{◌≡◌, ◌<◌, ◌∷◌, ◌++◌, ◌^◌, ◌-◌, [], ℕ, List, IfOk, OnOk, length, if◌then◌else◌};
-    ghost use Rattle.keep_client.specs.declared.look.Said.{Said};
+    ghost use Rattle.keep_client.specs.declared.said.Said.{Said};
     ghost use Rattle.keep_client.specs.Tallies.{AreTallied, end_of, with_miss_of};
 
     fn new(alloc: Global) -> Tally

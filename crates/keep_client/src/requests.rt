@@ -1,5 +1,5 @@
 // The requests of a client, and whom they go to.
-ghost use Rattle.std.specs.Prelude.{◌≡◌, ◌∷◌, true, map, IsTrue, IfOk};
+ghost use Rattle.std.specs.Prelude.{◌≡◌, ◌≤◌, ◌∷◌, true, map, length, IsTrue, IfOk};
 ghost use Rattle.std.specs.List.{list_all};
 ghost use Rattle.keep_spec.specs.Digest.{is_lower_digit};
 ghost use Rattle.keep_spec.specs.Locator.{is_locator};
@@ -11,7 +11,7 @@ use itoa::Buffer;
 use keep_config::Config;
 use keep_event::Block;
 use keep_order::order;
-use keep_spec::{Bytes, Digest, NoMemory, Server, Uuid};
+use keep_spec::{Bytes, Digest, NoMemory, Server, Uuid, is_lower_digit};
 use keep_wire::write_request;
 use std::alloc::Global;
 
@@ -95,6 +95,21 @@ pub(crate) fn index_request(
 {
     let path = index_path(alloc, mount, round, prefix)?;
     write_request(alloc, b"GET", &path, sent_as(token), b"")
+}
+
+fn are_lower_digits(text: &[u8]) -> bool
+    ensures { result ≡ list_all is_lower_digit text.now }
+{
+    text.iter().all(|byte| is_lower_digit(*byte))
+}
+
+/// Whether a text may be the prefix of an index: at most 32 lower-case hexadecimal digits.
+pub fn is_index_prefix(text: &[u8]) -> bool
+    ensures digits { IsTrue result → list_all is_lower_digit text.now ≡ true }
+    ensures short { IsTrue result → length text.now ≤ 32 }
+    ensures all { list_all is_lower_digit text.now ≡ true → length text.now ≤ 32 → IsTrue result }
+{
+    are_lower_digits(text) && text.len() <= 32
 }
 
 fn index_path(alloc: Global, mount: &Uuid, round: u64, prefix: &[u8]) -> Result<Vec<u8>, NoMemory>

@@ -1,5 +1,5 @@
 // A link over TCP.
-use crate::link::Link;
+use crate::link::{Link, Standing};
 use keep_config::Config;
 use keep_spec::Failed;
 use std::io::{Read, Write};
@@ -12,22 +12,37 @@ pub struct TcpLink<'a, N: Net> {
     net: &'a N,
     config: &'a Config,
     stream: Option<N::Stream>,
+    standing: Standing,
     faults: u64,
 }
 
 impl<'a, N: Net> TcpLink<'a, N> {
-    ghost use Rattle.std.specs.Prelude.{◌≡◌};
+    ghost use Rattle.std.specs.Prelude.{◌≡◌, ◌≤◌};
+    ghost use Rattle.keep_spec.specs.Causes.{Rose};
 
     /// A link to the servers of a configuration. Connects to none yet.
     pub fn new(net: &'a N, config: &'a Config) -> TcpLink<'a, N>
-        ensures { ⟦<TcpLink<'a, N> as Link>⟧.faults result ≡ 0 }
+        ensures standing { ⟦<TcpLink<'a, N> as Link>⟧.standing result ≡ Standing.Closed }
+        ensures faults { ⟦<TcpLink<'a, N> as Link>⟧.faults result ≡ 0 }
     {
         TcpLink {
             net,
             config,
             stream: None,
+            standing: Standing::Closed,
             faults: 0,
         }
+    }
+
+    // Counts a failed call of the exchange that stands open.
+    fn failed(&mut self) -> Failed
+        ensures standing { self.new.standing ≡ Standing.Failed }
+        ensures never_falls { self.old.faults ≤ self.new.faults }
+        ensures rose { Rose self.old.faults self.new.faults }
+    {
+        self.standing = Standing::Failed;
+        self.faults = self.faults.saturating_add(1);
+        Failed
     }
 
     fn connected(&self, server: u32) -> Option<N::Stream> {
@@ -50,13 +65,17 @@ impl<'a, N: Net> Link for TcpLink<'a, N> {
 
     ghost told = { λ _. None };
 
+    ghost standing = { λ s. s.standing };
+
     ghost faults = { λ s. s.faults };
 
     fn open(&mut self, server: u32) -> Result<(), Failed> {
         self.stream = self.connected(server);
         if self.stream.is_some() {
+            self.standing = Standing::Open;
             return Ok(());
         }
+        self.standing = Standing::Closed;
         self.faults = self.faults.saturating_add(1);
         Err(Failed)
     }
@@ -68,10 +87,7 @@ impl<'a, N: Net> Link for TcpLink<'a, N> {
         };
         match result {
             Some(count) if count > 0 || bytes.is_empty() => Ok(count),
-            _ => {
-                self.faults = self.faults.saturating_add(1);
-                Err(Failed)
-            }
+            _ => Err(self.failed()),
         }
     }
 
@@ -82,14 +98,12 @@ impl<'a, N: Net> Link for TcpLink<'a, N> {
         };
         match result {
             Some(count) => Ok(count),
-            None => {
-                self.faults = self.faults.saturating_add(1);
-                Err(Failed)
-            }
+            None => Err(self.failed()),
         }
     }
 
     fn close(&mut self) {
         self.stream = None;
+        self.standing = Standing::Closed;
     }
 }

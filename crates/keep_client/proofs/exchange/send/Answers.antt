@@ -4,11 +4,12 @@ use Rattle.keep_client.proofs.Told.{is_empty, sending-start, sending-more, sendi
 use Rattle.keep_client.proofs.exchange.send.Goals as goal
 
 pub loop-rest-init : goal.loop-rest-init
-loop-rest-init g c = record { told = sending-start _ _; never_falls = omega arith }
+loop-rest-init g c = record { told = sending-start _ _; standing = c.requires; never_falls = omega arith }
 
 pub loop-rest-preserved : goal.loop-rest-preserved
 loop-rest-preserved g c = record {
   told = rw take_rest (sending-more _ _ _ _ _ _ c.loop-rest.invariant.told c.in-Ok.ensures.told);
+  standing = c.in-Ok.ensures.standing;
   never_falls = omega (arith, c.in-Ok.ensures.cause.never_falls, c.loop-rest.invariant.never_falls);
 }
 

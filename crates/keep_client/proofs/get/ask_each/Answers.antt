@@ -12,6 +12,7 @@ pub loop-server-preserved : goal.loop-server-preserved
 loop-server-preserved g c = record {
   asking = rw c.count.ensures (asking-more c.args.servers.now c.args.request.now c.loop-server.server-index c.args.block.now _ _ _ c.loop-server.misses c.in-Ok.said c.in-Err-heard.miss
       c.loop-server-test.true c.loop-server.invariant.asking c.in-Ok.ensures.said c.in-Err-heard.ensures);
+  closed = λ _. c.in-Ok.ensures.closed;
   never_falls = omega (arith, c.loop-server.invariant.never_falls, c.in-Ok.ensures.never_falls);
   blames = rw c.count.ensures (blames-more c.args.block.now c.loop-server.misses c.in-Ok.said c.in-Err-heard.miss _ _ _ c.loop-server.invariant.blames
       c.loop-server.invariant.never_falls c.in-Ok.ensures.never_falls (λ e. c.in-Ok.ensures.cause (ap Ok e)) c.in-Err-heard.ensures);

@@ -6,6 +6,7 @@ use Rattle.keep_client.proofs.put.store_on.Goals as goal
 pub loop-server-init : goal.loop-server-init
 loop-server-init g c = record {
   storing = storing-start c.args.servers.now c.args.request.now c.args.block.now c.args.copies _ c.new-tally.result (c.new-tally.ensures c.args.block.now);
+  closed = λ h. h;
   never_falls = omega arith;
   blames = λ some. absurd (omega (arith, (c.new-tally.ensures c.args.block.now).failed, some));
 }
@@ -14,6 +15,7 @@ pub loop-server-preserved : goal.loop-server-preserved
 loop-server-preserved g c = record {
   storing = storing-more c.args.servers.now c.args.request.now c.loop-server.server-index c.args.block.now c.args.copies _ _ _ c.loop-server.tally c.take.new.self c.in-Ok.said
       c.loop-server-test.true (λ e. omega (arith, c.if-acked-copies.false, c.acked.ensures, e)) c.loop-server.invariant.storing c.in-Ok.ensures.said c.in-Ok-take.ensures;
+  closed = λ _. c.in-Ok.ensures.closed;
   never_falls = omega (arith, c.loop-server.invariant.never_falls, c.in-Ok.ensures.never_falls);
   blames = put_blames c.args.servers.now c.args.request.now c.loop-server.server-index c.args.block.now c.args.copies _ _ c.loop-server.tally c.take.new.self c.in-Ok.said _ _ _
       c.loop-server.invariant.storing c.in-Ok-take.ensures c.loop-server.invariant.blames c.loop-server.invariant.never_falls c.in-Ok.ensures.never_falls (λ e. c.in-Ok.ensures.cause (ap Ok e));
