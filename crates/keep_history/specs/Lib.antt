@@ -1,3 +1,4 @@
+pub mod Collisions
 pub mod Effects
 pub mod Ended
 pub mod Names

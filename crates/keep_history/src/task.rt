@@ -243,7 +243,13 @@ pub enum Command {
         opening: Opening,
     },
     /// Asks the next query of the open task of a name.
-    Step { name: Bytes, reading: u64 },
+    Step {
+        name: Bytes,
+        reading: u64,
+    },
     /// Asks until the open task of a name ends.
-    Finish { name: Bytes, reading: u64 },
+    Finish {
+        name: Bytes,
+        reading: u64,
+    },
 }
