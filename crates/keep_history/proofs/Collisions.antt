@@ -1,6 +1,6 @@
 -- A put that finds other bytes with its block's MD5 is refused, and they stay: `told-collisions`.
 use Rattle.std.proofs.Common.{◌≡◌, ◌≢◌, ℕ, zero, suc, ◌+◌, Bool, true, false, List, [], ◌∷◌, ◌++◌, length, Option, None, Some, IfSome, inl, inr, ◌⊎◌, refl, sym, ◌∙◌, ap, subst, arith}
-use Rattle.std.specs.Prelude.{⊤, ◌==◌, ◌&&◌, unwrap_or, option_map, if◌then◌else◌, map, filter, not, slice_get, slice_index_or, slice_set}
+use Rattle.std.specs.Prelude.{⊤, ◌==◌, ◌&&◌, unwrap_or, option_map, if◌then◌else◌, filter, not, slice_get, slice_index_or, slice_set}
 use Rattle.std.specs.List.{AllByRecursion}
 use Rattle.std.specs.Str.{bytes_eq}
 use Rattle.std.proofs.lemmas.Slice.Eq.{bytes_eq-Decides}
@@ -20,7 +20,6 @@ use Rattle.keep_event.specs.declared.device.DeviceQuery.TheVariants as Q
 use Rattle.keep_event.specs.declared.event.Answer.{Answer}
 use Rattle.keep_event.specs.declared.event.Answer.TheVariants as An
 use Rattle.keep_event.specs.declared.event.Query.{Query}
-use Rattle.keep_event.specs.declared.event.Query.TheVariants as Query
 use Rattle.keep_history.specs.declared.task.Command.{Command}
 use Rattle.keep_history.specs.declared.task.Command.TheVariants as C
 use Rattle.keep_history.specs.declared.task.Opening.{Opening}
@@ -29,8 +28,8 @@ use Rattle.keep_history.specs.declared.task.Outcome.{Outcome}
 use Rattle.keep_history.specs.declared.task.Outcome.TheVariants as O
 use Rattle.keep_history.specs.declared.task.Task.{Task}
 use Rattle.keep_history.specs.declared.task.Task.TheVariants as T
-use Rattle.keep_history.specs.Collisions.{BlockOn, block_on, HasOther, EndsCollision, IsRefused, RefusesOther, AreRefused, LinesRefuse, CollisionsAreRefused}
-use Rattle.keep_history.specs.Effects.{Scene, Standing, Effect, Ending, Asked, Made, after_made, answered_by, asked_on, asked_in, asked_effect, command_in, effect_of_line, event_of, events_max, is_failed, with_answer}
+use Rattle.keep_history.specs.Collisions.{block_on, HasOther, EndsCollision, RefusesOther, AreRefused, LinesRefuse, CollisionsAreRefused}
+use Rattle.keep_history.specs.Effects.{Scene, Standing, Effect, Ending, Asked, after_made, answered_by, asked_on, asked_in, command_in, effect_of_line, event_of, events_max, is_failed, with_answer}
 use Rattle.keep_history.specs.Ended.{Begun, begun_of}
 use Rattle.keep_history.specs.Run.{at_start}
 use Rattle.keep_history.specs.Tasks.{Answered, Next, asks, ends, ends_or, next, walk, on_device, by_all, writes, is_read_only, writable, compare_end, write_end, fetch_end, touch_end, no_end, not_written, not_fetched, not_touched, untrashed}
@@ -40,12 +39,12 @@ use Rattle.keep_history.proofs.Openings.{IsMade}
 -- ---- what follows a collision
 
 -- a query that brings a block goes to a device that takes changes, and the answer Collision ends the task
-abbrev CollidesNext : Configuration → Answered → Next → Next → Type 0
+abbrev pub CollidesNext : Configuration → Answered → Next → Next → Type 0
 CollidesNext c a (asks q) after = IfSome (block_on q) (λ b. (is_read_only c b.device ≡ false) × (a.answer ≡ An.Device A.Collision → after ≡ ends O.Collision))
 CollidesNext c a (ends outcome) after = ⊤
 
 -- a put's devices take changes
-abbrev TakeChanges : Configuration → Task → Type 0
+abbrev pub TakeChanges : Configuration → Task → Type 0
 TakeChanges c (T.Put devices token id block) = AllByRecursion (λ d. is_read_only c d ≡ false) devices
 TakeChanges c _ = ⊤
 
@@ -73,7 +72,7 @@ module _ (c : Configuration) (a : Answered) where
   write-given : (token block : List ℕ) (a' : Answer) (nx : Next) → a' ≡ An.Device A.Collision → ends_or (on_device (write_end c token block) a') nx ≡ ends O.Collision
   write-given token block a' nx e = rw e refl
 
-  next-collides : (task : Task) (answers : List Answered) → TakeChanges c task → CollidesNext c a (next c task answers) (next c task (answers ++ a ∷ []))
+  pub next-collides : (task : Task) (answers : List Answered) → TakeChanges c task → CollidesNext c a (next c task answers) (next c task (answers ++ a ∷ []))
   unfolding next
   next-collides (T.Put devices token id block) answers r =
       walk-collides (λ d. is_read_only c d ≡ false) (Q.CompareTouch block (Some id)) (on_device (compare_end c token block)) (writes c id token block devices)
@@ -91,7 +90,7 @@ module _ (c : Configuration) (a : Answered) where
 -- ---- the device's line
 
 -- a world of a configuration: a state for each of its devices
-abbrev IsWorldOf : Configuration → World → Type 0
+abbrev pub IsWorldOf : Configuration → World → Type 0
 IsWorldOf c w = (w.config ≡ c) × (length w.devices ≡ length c.devices)
 
 length-set : {X : Type 0} (xs : List X) (i : ℕ) (y : X) → length (slice_set xs i y) ≡ length xs
@@ -111,7 +110,7 @@ pub asked-world : (c : Configuration) (fails : Bool) (reading : ℕ) (q : Query)
 asked-world c fails reading q w h = either-world (IsWorldOf c) (fails && may_fault q) (stays (An.Device A.StoreFault) w) (line reading q w) h (line-world c reading q w h)
 
 -- the rules of a device that takes changes; past the devices there is none
-index-past : {X Y : Type 0} (xs : List X) (ys : List Y) (i : ℕ) (d : Y) → length ys ≡ length xs → slice_get xs i ≡ None → slice_index_or ys i d ≡ d
+pub index-past : {X Y : Type 0} (xs : List X) (ys : List Y) (i : ℕ) (d : Y) → length ys ≡ length xs → slice_get xs i ≡ None → slice_index_or ys i d ≡ d
 index-past [] [] i d e n = refl
 index-past [] (y ∷ ys) i d e n = absurd (omega (arith, e))
 index-past (x ∷ xs) [] i d e n = refl
@@ -121,7 +120,7 @@ index-past (x ∷ xs) (y ∷ ys) zero d e n = absurd (some_none n)
     some_none e = cc
 index-past (x ∷ xs) (y ∷ ys) (suc i) d e n = index-past xs ys i d (omega (arith, e)) n
 
-rules-change : (c : Configuration) (o : Option Device) → unwrap_or (option_map (λ (d : Device). d.read_only) o) false ≡ false → (o ≡ None) ⊎ ((rules_of c o).read_only ≡ false)
+pub rules-change : (c : Configuration) (o : Option Device) → unwrap_or (option_map (λ (d : Device). d.read_only) o) false ≡ false → (o ≡ None) ⊎ ((rules_of c o).read_only ≡ false)
 rules-change c None e = inl refl
 rules-change c (Some d) e = inr e
 
@@ -227,10 +226,10 @@ module _ (c : Configuration) (failed : List ℕ) where
 
   -- ---- lines
 
-  abbrev StandingTakes : Standing → Type 0
+  abbrev pub StandingTakes : Standing → Type 0
   StandingTakes s = TakeChanges c s.task
 
-  abbrev LineRefuses : Scene → Effect → Type 0
+  abbrev pub LineRefuses : Scene → Effect → Type 0
   LineRefuses scene e = AreRefused scene.world e.made e.ended
 
   goes : (o : Option Outcome) (s : Standing) → StandingTakes s → GoesOn c failed (IsWorldOf c) StandingTakes LineRefuses o s
@@ -246,7 +245,7 @@ module _ (c : Configuration) (failed : List ℕ) where
   quiet : (scene : Scene) (e : Effect) → e.made ≡ [] → e.ended ≡ None → LineRefuses scene e
   quiet scene e m n = rw m tt
 
-  takes-changes : (server : ℕ) → AllByRecursion (λ d. is_read_only c d ≡ false) (writable c server)
+  pub takes-changes : (server : ℕ) → AllByRecursion (λ d. is_read_only c d ≡ false) (writable c server)
   takes-changes server = kept (devices_of c server)
     where
       one : (b : Bool) (d : ℕ) (rest : List ℕ) → is_read_only c d ≡ b → AllByRecursion (λ d. is_read_only c d ≡ false) rest → AllByRecursion (λ d. is_read_only c d ≡ false) (if not b then d ∷ rest else rest)
@@ -276,7 +275,14 @@ module _ (c : Configuration) (failed : List ℕ) where
   command-takes (Some (C.Step name reading)) = tt
   command-takes (Some (C.Finish name reading)) = tt
 
-  lines-refuse : (scene : Scene) (pieces : List (List ℕ)) → SceneHas c failed (IsWorldOf c) StandingTakes LineRefuses scene → LinesRefuse c failed scene pieces
+  -- a scene of a run
+  abbrev pub SceneTakes : Scene → Type 0
+  SceneTakes scene = SceneHas c failed (IsWorldOf c) StandingTakes LineRefuses scene
+
+  pub scene-takes : (scene : Scene) (text : List ℕ) → SceneTakes scene → IfSome (effect_of_line c failed scene text) (λ e. SceneTakes e.scene)
+  scene-takes scene text h = line-keeps c failed (IsWorldOf c) StandingTakes LineRefuses asking scene text (command-takes (command_in c scene text)) h
+
+  lines-refuse : (scene : Scene) (pieces : List (List ℕ)) → SceneTakes scene → LinesRefuse c failed scene pieces
   lines-refuse scene [] h = tt
   lines-refuse scene (piece ∷ rest) h =
       both-some _ _ (effect_of_line c failed scene (text_of piece))
@@ -284,7 +290,7 @@ module _ (c : Configuration) (failed : List ℕ) where
       (some-more _ _ (effect_of_line c failed scene (text_of piece)) (λ e k. lines-refuse e.scene rest k)
       (line-keeps c failed (IsWorldOf c) StandingTakes LineRefuses asking scene (text_of piece) (command-takes (command_in c scene (text_of piece))) h))
 
-new-world : (c : Configuration) → IsWorldOf c (at_start c).scene.world
+pub new-world : (c : Configuration) → IsWorldOf c (at_start c).scene.world
 new-world c = (refl, length-map c.devices (λ (d : Device). machine.initial))
 
 from-begun : (failed : List ℕ) (o : Option Begun) → IfSome o (λ (b : Begun). LinesRefuse b.config failed (at_start b.config).scene b.rest)

@@ -1,5 +1,5 @@
 -- The bytes that gets return were put: `told-reads`.
-use Rattle.std.proofs.Common.{◌≡◌, ℕ, zero, suc, ◌+◌, Bool, true, false, List, [], ◌∷◌, ◌++◌, length, Option, None, Some, IfSome, Result, Ok, Err, inl, inr, refl, sym, ap}
+use Rattle.std.proofs.Common.{◌≡◌, ℕ, zero, suc, ◌+◌, Bool, true, false, List, [], ◌∷◌, ◌++◌, Option, None, Some, IfSome, inl, inr, refl}
 use Rattle.std.specs.Prelude.{⊤, ◌==◌, ◌&&◌, unwrap_or, option_map, if◌then◌else◌, map, slice_index_or, slice_set}
 use Rattle.std.specs.List.{AllByRecursion}
 use Rattle.std.proofs.lemmas.Slice.Eq.{bytes_eq-Decides}
@@ -10,7 +10,6 @@ use Rattle.keep_spec.specs.Lines.{cut, text_of}
 use Rattle.keep_spec.specs.declared.config.Device.{Device}
 use Rattle.keep_event.specs.Device as machine
 use Rattle.keep_event.specs.Device.{State}
-use Rattle.keep_event.specs.Requests.{table_line}
 use Rattle.keep_event.specs.World.{World, Reply, asked, line, may_fault, stays, device_rules, device_state}
 use Rattle.keep_event.specs.declared.names.Stored.{Stored}
 use Rattle.keep_event.specs.declared.device.DeviceAnswer.TheVariants as A
@@ -19,7 +18,6 @@ use Rattle.keep_event.specs.declared.device.DeviceQuery.TheVariants as Q
 use Rattle.keep_event.specs.declared.event.Answer.{Answer}
 use Rattle.keep_event.specs.declared.event.Answer.TheVariants as An
 use Rattle.keep_event.specs.declared.event.Query.{Query}
-use Rattle.keep_event.specs.declared.event.Query.TheVariants as Query
 use Rattle.keep_history.specs.declared.task.Command.{Command}
 use Rattle.keep_history.specs.declared.task.Command.TheVariants as C
 use Rattle.keep_history.specs.declared.task.Opening.{Opening}
@@ -30,15 +28,14 @@ use Rattle.keep_history.specs.declared.task.Task.{Task}
 use Rattle.keep_history.specs.declared.task.Task.TheVariants as T
 use Rattle.keep_history.specs.declared.task.TaskState.{TaskState}
 use Rattle.keep_history.specs.declared.task.TaskState.TheVariants as S
-use Rattle.keep_history.specs.Effects.{Scene, Standing, Effect, Ending, Asked, Made, after_made, answered_by, asked_on, asked_in, asked_effect, command_in, effect_of_line, event_of, events_max, is_failed, with_answer}
+use Rattle.keep_history.specs.Effects.{Scene, Standing, Effect, Asked, Made, after_made, answered_by, asked_on, asked_in, command_in, effect_of_line, event_of, events_max, is_failed, with_answer}
 use Rattle.keep_history.specs.Ended.{Begun, begun_of}
-use Rattle.keep_history.specs.Names.{Named}
 use Rattle.keep_history.specs.Reads.{bytes_put, Read, read_by, read_in, IsAmong, IsOfPut, AreOfPuts, ReadsAreOfPuts}
 use Rattle.keep_history.specs.Run.{at_start}
 use Rattle.keep_history.specs.Tasks.{Answered, Next, asks, ends, ends_or, next, walk, on_device, by_all, writes, compare_end, write_end, fetch_end, touch_end, no_end, not_written, not_fetched, not_touched, untrashed, first_found, any_fault}
 use Rattle.keep_history.proofs.Held.{HoldAll, BringsAll, all-found, step-all}
 use Rattle.keep_history.proofs.Lines.{AskedHas, Begins, CommandHas, GoesOn, SceneHas, StateHas, both-some, line-gives, line-keeps, some-more}
-use Rattle.keep_history.proofs.Names.{AllNames, all-more}
+use Rattle.keep_history.proofs.Names.{all-more}
 use Rattle.keep_history.proofs.Openings.{IsMade}
 
 -- ---- lists
@@ -61,31 +58,31 @@ module _ (P : List ℕ → Type 0) where
   -- ---- what tasks bring, and what they are answered
 
   -- the block that a task brings has P
-  abbrev TaskBrings : Task → Type 0
+  abbrev pub TaskBrings : Task → Type 0
   TaskBrings (T.Put devices token id block) = P block
   TaskBrings _ = ⊤
 
   -- the bytes of an answer have the digest, and P
-  abbrev Fetches : List ℕ → Answer → Type 0
+  abbrev pub Fetches : List ℕ → Answer → Type 0
   Fetches hash (An.Device (A.Block bytes)) = (md5 bytes ≡ hash) × P bytes
   Fetches hash _ = ⊤
 
   -- a get was answered blocks of its digest
-  abbrev AnswerFits : Task → Answer → Type 0
+  abbrev pub AnswerFits : Task → Answer → Type 0
   AnswerFits (T.Get devices hash) a = Fetches hash a
   AnswerFits _ a = ⊤
 
   -- a get asks for its digest, and the blocks that another task brings have P
-  abbrev QueryFits : Task → Query → Type 0
+  abbrev pub QueryFits : Task → Query → Type 0
   QueryFits (T.Get devices hash) (Query.Device d q) = q ≡ Q.Fetch hash
   QueryFits (T.Get devices hash) (Query.Table q) = ⊥
   QueryFits _ (Query.Device d q) = BringsAll P q
   QueryFits _ (Query.Table q) = ⊤
 
-  abbrev IsRead : Read → Type 0
+  abbrev pub IsRead : Read → Type 0
   IsRead r = (md5 r.bytes ≡ r.digest) × P r.bytes
 
-  abbrev NextFits : Task → Next → Type 0
+  abbrev pub NextFits : Task → Next → Type 0
   NextFits task (asks q) = QueryFits task q
   NextFits task (ends outcome) = IfSome (read_by task outcome) IsRead
 
@@ -121,7 +118,7 @@ module _ (P : List ℕ → Type 0) where
   walk-gets devices hash seen (d ∷ ds) [] f = refl
   walk-gets devices hash seen (d ∷ ds) (a ∷ answers) f = fetch-goes devices hash a.answer _ f.0 (walk-gets devices hash (seen ++ a.answer ∷ []) ds answers f.1)
 
-  next-fits : (c : Configuration) (task : Task) (answers : List Answered) → TaskBrings task → AllByRecursion (λ a. AnswerFits task a.answer) answers → NextFits task (next c task answers)
+  pub next-fits : (c : Configuration) (task : Task) (answers : List Answered) → TaskBrings task → AllByRecursion (λ a. AnswerFits task a.answer) answers → NextFits task (next c task answers)
   unfolding next
   next-fits c (T.Put devices token id block) answers p f =
       walk-fits (T.Put devices token id block) (Q.CompareTouch block (Some id)) (on_device (compare_end c token block)) (writes c id token block devices) (λ d. p) (λ o. tt)

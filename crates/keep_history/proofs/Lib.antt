@@ -1,6 +1,9 @@
 pub mod Collisions
+pub mod Follows
 pub mod GetsOfPuts
+pub mod GoodTasks
 pub mod Held
 pub mod Lines
 pub mod Names
 pub mod Openings
+pub mod Scripts

@@ -7,3 +7,4 @@ pub mod Reads
 pub mod Run
 pub mod Script
 pub mod Tasks
+pub mod Whole
