@@ -93,7 +93,8 @@ impl<'a, S: Store> Cluster<'a, S> {
 
     /// Returns the devices, in the order of the configuration. The table is let go.
     pub fn into_volumes(self) -> Vec<Volume<S>>
-        ensures { result.items ≡ self.entry.devices }
+        ensures devices { result.items ≡ self.entry.devices }
+        ensures rules { HasDevices self.entry.config result.items }
     {
         let Cluster {
             config: _,
