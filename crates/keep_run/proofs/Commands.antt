@@ -1,223 +1,289 @@
--- What a command does, in the words of its effect: `does-open-task`, `does-open-ended` and `does-task` where it is done, `stops-before` and `stops-task` where memory was refused, `refuses-finish` where it can't be done; `with_name-twice` for a name that is set twice.
-use Rattle.std.proofs.Common.{◌≡◌, ℕ, false, zero, suc, ◌+◌, ◌≤◌, List, [], ◌∷◌, ◌++◌, length, Option, None, Some, option_map, Result, Ok, Err, refl, sym, ◌∙◌, ap, arith, append_assoc}
-use Rattle.std.proofs.lemmas.List.{append-nil}
-use Rattle.std.specs.Ordering.{nat_cmp, match_ordering}
-use Rattle.std.specs.declared.cmp.Ordering.{Ordering}
-use Rattle.std.specs.declared.cmp.Ordering.TheVariants.{Less, Equal, Greater}
-use Rattle.std.specs.Cmp.{tied_itself}
-use Rattle.std.specs.Cmp.Lexicographic.{slice_cmp, nat_list_cmp_total}
+-- What a command does, in the words of its effect: `does-open` for an opening; `does-ask`, `asked-part`, `stops-ask` and `refuses-ask` for a name that is asked; `step-if`, `step-unless`, `finish-if` and `finish-unless`; `done-put`. Open tasks may be asked: `found-askable`, `opened-askable` and `put-askable`.
+use Rattle.std.proofs.Common.{◌≡◌, ℕ, ◌+◌, false, List, [], ◌++◌, length, Option, None, Some, IfSome, Result, Ok, Err, IfOk, OnErr, refl, sym, ◌∙◌, ap, subst, arith, append_assoc}
+use Rattle.std.proofs.lemmas.List.{take_all}
 use Rattle.keep_spec.specs.Config.{Configuration}
-use Rattle.keep_event.specs.Device.{State}
-use Rattle.keep_event.specs.Table as tables
-use Rattle.keep_event.specs.Requests.{table_line}
-use Rattle.keep_event.specs.declared.table.TableQuery.{TableQuery}
-use Rattle.keep_history.specs.declared.task.Command.{Command}
+use Rattle.keep_spec.specs.declared.memory.NoMemory.{NoMemory}
+use Rattle.keep_cluster.specs.Cluster.{View, world_of, faults_at}
 use Rattle.keep_history.specs.declared.task.Command.TheVariants as C
 use Rattle.keep_history.specs.declared.task.Opening.{Opening}
 use Rattle.keep_history.specs.declared.task.Outcome.{Outcome}
 use Rattle.keep_history.specs.declared.task.Task.{Task}
-use Rattle.keep_history.specs.declared.task.Task.TheVariants as T
 use Rattle.keep_history.specs.declared.task.TaskState.{TaskState}
 use Rattle.keep_history.specs.declared.task.TaskState.TheVariants as S
-use Rattle.keep_volume.specs.Calls.{VolumeView, state_of}
-use Rattle.keep_history.specs.Effects.{Scene, Effect, Asked, open_effect, finish_effect, table_effect, task_effect, finish_state, asked_at, effect_of_command, state_after, event_lines, line_after_end, names_after}
-use Rattle.keep_history.specs.Names.{Names, state_of_name, with_name}
-use Rattle.keep_history.specs.Printed.{end_line, table_event_line}
-use Rattle.keep_history.specs.Tasks.{opened}
-use Rattle.keep_history.proofs.Faults.{AreFaults-none}
-use Rattle.keep_run.specs.Asked.{HasAsked, PartAsked, IsLeft, IsFinished, IsPartFinished, IsTableAsked, IsTaskDone, IsTaskStopped, is_table, Turn, turn, asked_in}
-use Rattle.keep_run.specs.Effects.{HasEffect, PartDone, IsAfter}
-use Rattle.keep_run.specs.Commands.{DoesCommand, RefusesCommand, StopsCommand, open_task_of}
-use Rattle.keep_run.specs.Scenes.{Cluster, cluster, scene_of, scene_with}
-use Rattle.keep_run.specs.declared.asking.Finished.{Finished}
+use Rattle.keep_history.specs.Effects.{Scene, Effect, Made, Asked, Standing, open_effect, asked_effect, asked_in, asked_on, asking_effect, effect_of_command, state_of, state_after, event_lines, line_of_end, step_turns, finish_turns}
+use Rattle.keep_history.specs.Names.{at_name, with_name}
+use Rattle.keep_history.specs.Tasks.{opened, next}
+use Rattle.keep_tasks.specs.Running.{stands, has_ended, may_ask}
+use Rattle.keep_tasks.specs.Steps.{IsOpened, IsReady}
+use Rattle.keep_tasks.specs.declared.running.Running.{Running}
+use Rattle.keep_tasks.specs.declared.steps.Opened.{Opened}
+use Rattle.keep_tasks.specs.declared.steps.Opened.TheVariants as P
+use Rattle.keep_run.specs.Asked.{HasAsked, DoesTurns, StopsTurns, asking, outcome_of, is_spent}
+use Rattle.keep_run.specs.Commands.{HasPrinted, IsRefused, PartDone, done_by, IsCommandDone, IsCommandStopped, IsAskingDone, IsAskingStopped, state_opened, text_opened, state_put, done_of}
+use Rattle.keep_run.specs.Faults.{Agrees, AreNumbered, Rise}
+use Rattle.keep_run.specs.Named.{SameState, SameLookup, SameNames, open_task_of}
+use Rattle.keep_run.specs.Scenes.{IsSceneOf}
+use Rattle.keep_run.specs.Standing.{IsAskable, IsAskableState, IsStanding}
+use Rattle.keep_run.specs.declared.asking.Open.{Open}
+use Rattle.keep_run.specs.declared.asking.Turned.{Turned}
+use Rattle.keep_run.specs.declared.asking.Turned.TheVariants as T
+use Rattle.keep_run.specs.declared.stage.Done.{Done}
 use Rattle.keep_run.specs.declared.stage.Stage.{Stage}
-use Rattle.keep_run.proofs.Queries.{part-all}
-use Rattle.keep_run.proofs.Replies.{if_told, told_at}
+use Rattle.keep_run.proofs.Faults.{rise-none}
+use Rattle.keep_run.proofs.Names.{after-end, same-after, same-length, same-lookup, same-with}
 
-abbrev scene_at : ℕ → tables.State → Names → State → Scene
-scene_at count table names s = record { count = count; state = s; table = table; names = names }
+-- ---- tasks that may be asked
 
-scene_here : (state : Option State) (s : State) (count count' : ℕ) (table table' : tables.State) (names names' : Names) → state ≡ Some s → count' ≡ count → table' ≡ table → names' ≡ names → option_map (scene_at count' table' names') state ≡ Some (scene_at count table names s)
-scene_here state s count count' table table' names names' e f t g = rw (e, f, t, g) refl
-
--- ---- names
-
-twice_at : (name : List ℕ) (a b : TaskState) (e : List ℕ × TaskState) (es : Names) (o : Ordering) → slice_cmp nat_cmp name e.0 ≡ o → with_name name b (with_name name a es) ≡ with_name name b es → with_name name b (match_ordering o ((name, a) ∷ e ∷ es) ((e.0, a) ∷ es) (e ∷ with_name name a es)) ≡ match_ordering o ((name, b) ∷ e ∷ es) ((e.0, b) ∷ es) (e ∷ with_name name b es)
-twice_at name a b e es Less is more = rw (tied_itself nat_list_cmp_total name) refl
-twice_at name a b e es Equal is more = rw is refl
-twice_at name a b e es Greater is more = rw (is, more) refl
-
--- what a name was given first is forgotten
-pub with_name-twice : (name : List ℕ) (a b : TaskState) (names : Names) → with_name name b (with_name name a names) ≡ with_name name b names
-with_name-twice name a b [] = rw (tied_itself nat_list_cmp_total name) refl
-with_name-twice name a b (e ∷ es) = twice_at name a b e es (slice_cmp nat_cmp name e.0) refl (with_name-twice name a b es)
-
--- ---- openings
-
-module _ {X : Type 0} (config : Configuration) (old : Stage X) (name : List ℕ) (reading : ℕ) where
-  abbrev does : Command → State → List ℕ → Option Effect
-  does command s failed = effect_of_command config failed (scene_with old s) command
-
-  effect-open : (opening : Opening) (others : List ℕ) (s : State) → does (C.Open name reading opening) s others ≡ Some (open_effect (scene_with old s) name (opened config opening reading))
-  unfolding effect_of_command
-  effect-open opening others s = refl
-
-  does-open-at : (new : Stage X) (opening : Opening) (r : Result Task Outcome) (out_before out : List ℕ) (s : State) → opened config opening reading ≡ r → state_of new.volume ≡ Some s → old.volume.faults ≤ new.volume.faults → new.events ≡ old.events → new.table.state ≡ old.table.state → new.names.entries ≡ (open_effect (scene_with old s) name r).scene.names → out ≡ out_before ++ (open_effect (scene_with old s) name r).text → HasEffect old.events (scene_of new) old.volume.faults new.volume.faults out_before out (does (C.Open name reading opening) s)
-  does-open-at new opening (Ok task) out_before out s e is le c tb n o = record {
-    failed = [];
-    effect = open_effect (scene_with old s) name (Ok task);
-    faults = AreFaults-none old.events old.events old.volume.faults new.volume.faults le;
-    is = λ others agree. effect-open opening others s ∙ ap (λ v. Some (open_effect (scene_with old s) name v)) e;
-    grows = omega arith;
-    scene_is = scene_here (state_of new.volume) s old.events new.events old.table.state new.table.state _ new.names.entries is c tb n;
-    out_is = o;
-  }
-  does-open-at new opening (Err outcome) out_before out s e is le c tb n o = record {
-    failed = [];
-    effect = open_effect (scene_with old s) name (Err outcome);
-    faults = AreFaults-none old.events old.events old.volume.faults new.volume.faults le;
-    is = λ others agree. effect-open opening others s ∙ ap (λ v. Some (open_effect (scene_with old s) name v)) e;
-    grows = omega arith;
-    scene_is = scene_here (state_of new.volume) s old.events new.events old.table.state new.table.state _ new.names.entries is c tb n;
-    out_is = o;
-  }
-
-  pub does-open-task : (new : Stage X) (opening : Opening) (task : Task) (out_before out : List ℕ) → opened config opening reading ≡ Ok task → new.volume ≡ old.volume → new.events ≡ old.events → new.table.state ≡ old.table.state → new.names.entries ≡ with_name name (S.Open task (length old.names.entries)) old.names.entries → out ≡ out_before → DoesCommand config (C.Open name reading opening) old new out_before out
-  does-open-task new opening task out_before out e same c tb n o = if_told _ (λ s is.
-      does-open-at new opening (Ok task) out_before out s e (ap state_of same ∙ is) (omega (arith, ap (λ (d : VolumeView). d.faults) same)) c tb n (o ∙ sym (append-nil out_before)))
-
-  pub does-open-ended : (new : Stage X) (opening : Opening) (outcome : Outcome) (out_before out : List ℕ) → opened config opening reading ≡ Err outcome → new.volume ≡ old.volume → new.events ≡ old.events → new.table.state ≡ old.table.state → new.names.entries ≡ with_name name (state_after outcome) old.names.entries → out ≡ out_before ++ end_line name outcome → DoesCommand config (C.Open name reading opening) old new out_before out
-  does-open-ended new opening outcome out_before out e same c tb n o = if_told _ (λ s is.
-      does-open-at new opening (Err outcome) out_before out s e (ap state_of same ∙ is) (omega (arith, ap (λ (d : VolumeView). d.faults) same)) c tb n o)
-
-  stops-before-at : (device : VolumeView) (command : Command) (s : State) → state_of device ≡ Some s → old.volume.faults ≤ device.faults → PartDone old.events s (state_of device) old.volume.faults device.faults (does command s)
-  stops-before-at device command s same le = record {
-    made = 0;
-    failed = [];
-    faults = AreFaults-none old.events (old.events + 0) old.volume.faults device.faults le;
-    is = λ others agree. same;
-  }
-
-  -- nothing was done yet
-  pub stops-before : (device : VolumeView) (command : Command) → state_of device ≡ state_of old.volume → old.volume.faults ≤ device.faults → StopsCommand config command old device
-  stops-before device command same le = if_told _ (λ s is. stops-before-at device command s (same ∙ is) le)
-
-  -- ---- finishing
-
-  -- a task of devices
-  device-effect : (task : Task) (actor : ℕ) (others : List ℕ) (s : State) → is_table task ≡ false → task_effect config others (scene_with old s) name reading task actor ≡ finish_effect (scene_with old s) name (asked_at config others (scene_with old s) reading task actor)
-  device-effect (T.Table q) actor others s e = absurd cc
-  device-effect _ actor others s e = refl
-
-  effect-finish : (task : Task) (actor : ℕ) (others : List ℕ) (s : State) → is_table task ≡ false → state_of_name name old.names.entries ≡ Some (S.Open task actor) → does (C.Finish name reading) s others ≡ Some (finish_effect (scene_with old s) name (asked_at config others (scene_with old s) reading task actor))
-  unfolding effect_of_command
-  effect-finish task actor others s d e = ap (finish_state config others (scene_with old s) name reading) e ∙ ap Some (device-effect task actor others s d)
-
-  joined_end : (out_before out1 out events end : List ℕ) → out ≡ out1 ++ end → out1 ≡ out_before ++ events → out ≡ out_before ++ (events ++ end)
-  joined_end out_before out1 out events end e f = e ∙ ap (λ v. v ++ end) f ∙ append_assoc out_before events end
-
-  abbrev turn_of : Task → Turn
-  turn_of task = turn config reading name task
-
-  does-finish-at : (new : Stage X) (task : Task) (actor : ℕ) (f : Finished) (out_before out1 out : List ℕ) (s : State) → is_table task ≡ false → new.table.state ≡ old.table.state → state_of_name name old.names.entries ≡ Some (S.Open task actor) → new.events ≡ old.events + f.events → new.names.entries ≡ with_name name (state_after f.outcome) old.names.entries → out ≡ out1 ++ end_line name f.outcome → HasAsked old.events f.events s (state_of new.volume) old.volume.faults new.volume.faults name out_before out1 f.outcome (asked_in (turn_of task) old.events actor s) → HasEffect old.events (scene_of new) old.volume.faults new.volume.faults out_before out (does (C.Finish name reading) s)
-  does-finish-at new task actor f out_before out1 out s d tb there c n o h = record {
-    failed = h.failed;
-    effect = finish_effect (scene_with old s) name h.asked;
-    faults = h.faults;
-    is = λ others agree. effect-finish task actor others s d there ∙ ap (λ v. Some (finish_effect (scene_with old s) name v)) (h.is others agree);
-    grows = omega arith;
-    scene_is = scene_here (state_of new.volume) h.asked.state (old.events + length h.asked.made) new.events old.table.state new.table.state _ new.names.entries h.state_is (c ∙ ap (λ k. old.events + k) h.made_is) tb (n ∙ ap (λ v. names_after name v old.names.entries) (sym h.ended));
-    out_is = joined_end out_before out1 out (event_lines name h.asked.made) (line_after_end name h.asked.outcome) (o ∙ ap (λ v. out1 ++ line_after_end name v) (sym h.ended)) h.out_is;
-  }
-
-  -- an open task has an actor
-  actor_of : (o : Option TaskState) (task : Task) → open_task_of o ≡ Some task → (actor : ℕ) × (o ≡ Some (S.Open task actor))
-  actor_of (Some (S.Open t actor)) task e = (actor, ap (λ v. Some (S.Open v actor)) (same t task e))
+module _ (devices : ℕ) where
+  pub found-askable : (o : Option (TaskState Open)) (t : Open) → IfSome o (IsAskableState devices) → open_task_of o ≡ Some t → IsAskable devices t
+  found-askable None t p e = absurd cc
+  found-askable (Some (S.Open u)) t p e = subst (IsAskable devices) (same e) p
     where
-      same : (x y : Task) → Some x ≡ Some y → x ≡ y
-      same x y e = cc
-  actor_of _ task e = absurd cc
+      same : Some u ≡ Some t → u ≡ t
+      same e = cc
+  found-askable (Some (S.Located locator)) t p e = absurd cc
+  found-askable (Some (S.Row text)) t p e = absurd cc
+  found-askable (Some S.Ended) t p e = absurd cc
 
-  does-finish : (new : Stage X) (task : Task) (f : Finished) (out_before out1 out : List ℕ) → is_table task ≡ false → new.table.state ≡ old.table.state → open_task_of (state_of_name name old.names.entries) ≡ Some task → new.events ≡ old.events + f.events → new.names.entries ≡ with_name name (state_after f.outcome) old.names.entries → out ≡ out1 ++ end_line name f.outcome → IsFinished (turn_of task) old.volume new.volume out_before out1 f → DoesCommand config (C.Finish name reading) old new out_before out
-  does-finish new task f out_before out1 out d tb there c n o fin =
-      let a = actor_of (state_of_name name old.names.entries) task there in
-      if_told _ (λ s is. does-finish-at new task a.0 f out_before out1 out s d tb a.1 c n o
-      (told_at (λ v. HasAsked old.events f.events v (state_of new.volume) old.volume.faults new.volume.faults name out_before out1 f.outcome (asked_in (turn_of task) old.events a.0 v)) (state_of old.volume) s is (fin old.events a.0)))
+  after-askable : (o : Outcome) → IsAskableState devices (state_after o)
+  after-askable o = after-end (IsAskableState devices) (λ locator. tt) (λ text. tt) tt o
 
-  left_after : (e : Option Effect) (asked : Asked) (s : State) (state : Option State) (k : ℕ) → e ≡ Some (finish_effect (scene_with old s) name asked) → IsLeft asked.made s state k → IsAfter e s state k
-  left_after e asked s state zero f is = is
-  left_after e asked s state (suc k) f (x, (at, is)) = (finish_effect (scene_with old s) name asked, (x, (f, at, is)))
+  pub put-askable : (turned : Turned) (t : Open) → (outcome_of turned ≡ None → IsAskable devices t) → IsAskableState devices (state_put t turned)
+  put-askable (T.Ended outcome) t h = after-askable outcome
+  put-askable T.Asks t h = h refl
+  put-askable T.Spent t h = h refl
 
-  stops-finish-at : (device : VolumeView) (task : Task) (actor : ℕ) (s : State) → is_table task ≡ false → state_of_name name old.names.entries ≡ Some (S.Open task actor) → PartAsked old.events s (state_of device) old.volume.faults device.faults (asked_in (turn_of task) old.events actor s) → PartDone old.events s (state_of device) old.volume.faults device.faults (does (C.Finish name reading) s)
-  stops-finish-at device task actor s d there p = record {
-    made = p.made;
-    failed = p.failed;
-    faults = p.faults;
-    is = λ others agree. left_after _ (asked_at config others (scene_with old s) reading task actor) s (state_of device) p.made (effect-finish task actor others s d there) (p.is others agree);
+abbrev pub Ready : Configuration → Running → Task → Type 0
+Ready config t task = IsReady (has_ended t) (stands t) (may_ask t) config task
+
+pub opened-askable : (config : Configuration) (r : Result Task Outcome) (o : Opened Running) (actor : ℕ) → IsOpened r o (Ready config) → IsAskableState (length config.devices) (state_opened actor o)
+opened-askable config (Ok task) (P.Task t) actor h = record { not_ended = h.0; devices_are = h.1.1 }
+opened-askable config (Err outcome) (P.Ended ended) actor h = after-askable (length config.devices) ended
+opened-askable config (Ok task) (P.Ended ended) actor h = absurd h
+opened-askable config (Err outcome) (P.Task t) actor h = absurd h
+
+-- ---- names that were looked up
+
+module _ {T U : Type 0} (R : T → U → Type 0) where
+  found-by : (t : T) (x : Option (TaskState T)) (y : Option (TaskState U)) → SameLookup R x y → open_task_of x ≡ Some t → (u : U) × ((y ≡ Some (S.Open u)) × R t u)
+  found-by t (Some (S.Open v)) (Some (S.Open u)) h e = (u, (refl, subst (λ z. R z u) (same e) h))
+    where
+      same : Some v ≡ Some t → v ≡ t
+      same e = cc
+  found-by t (Some (S.Open v)) (Some (S.Located a)) h e = absurd h
+  found-by t (Some (S.Open v)) (Some (S.Row a)) h e = absurd h
+  found-by t (Some (S.Open v)) (Some S.Ended) h e = absurd h
+  found-by t (Some (S.Open v)) None h e = absurd h
+  found-by t (Some (S.Located a)) y h e = absurd cc
+  found-by t (Some (S.Row a)) y h e = absurd cc
+  found-by t (Some S.Ended) y h e = absurd cc
+  found-by t None y h e = absurd cc
+
+none-asks : {T : Type 0} (R : T → Standing → Type 0) (turns : ℕ) (c : Configuration) (failed : List ℕ) (scene : Scene) (name : List ℕ) (reading : ℕ) (x : Option (TaskState T)) (y : Option (TaskState Standing)) → SameLookup R x y → open_task_of x ≡ None → asking_effect turns c failed scene name reading y ≡ None
+none-asks R turns c failed scene name reading (Some (S.Open v)) y h e = absurd cc
+none-asks R turns c failed scene name reading (Some (S.Located a)) (Some (S.Open u)) h e = absurd h
+none-asks R turns c failed scene name reading (Some (S.Row a)) (Some (S.Open u)) h e = absurd h
+none-asks R turns c failed scene name reading (Some S.Ended) (Some (S.Open u)) h e = absurd h
+none-asks R turns c failed scene name reading None (Some y) h e = absurd h
+none-asks R turns c failed scene name reading x (Some (S.Located a)) h e = refl
+none-asks R turns c failed scene name reading x (Some (S.Row a)) h e = refl
+none-asks R turns c failed scene name reading x (Some S.Ended) h e = refl
+none-asks R turns c failed scene name reading x None h e = refl
+
+module _ {X : Type 0} (config : Configuration) (old new : Stage X) (scene : Scene) (sc : IsSceneOf config old scene) where
+  -- ---- openings
+
+  abbrev opens : List ℕ → ℕ → Opening → List ℕ → Option Effect
+  opens name reading opening failed = effect_of_command config failed scene (C.Open name reading opening)
+
+  effect-open : (name : List ℕ) (reading : ℕ) (opening : Opening) (others : List ℕ) → opens name reading opening others ≡ Some (open_effect scene name (opened config opening reading))
+  unfolding effect_of_command
+  effect-open name reading opening others = refl
+
+  same-rise : new.cluster ≡ old.cluster → Rise [] (faults_at old.cluster.devices) (faults_at new.cluster.devices)
+  same-rise same = rise-none _ _ (λ device. omega (arith, ap (λ (v : View). faults_at v.devices device) same))
+
+  set-scene : (name : List ℕ) (x : TaskState Open) (y : TaskState Standing) → SameState (IsStanding config) x y → new.cluster ≡ old.cluster → new.names.entries ≡ with_name name x old.names.entries → IsSceneOf config new (record { count = scene.count; world = scene.world; names = with_name name y scene.names })
+  set-scene name x y rel same set = record {
+    count = sc.count ∙ ap (λ (v : View). v.made) (sym same);
+    world = ap world_of same ∙ sc.world;
+    names = subst (λ ns. SameNames (IsStanding config) ns (with_name name y scene.names)) (sym set) (same-with (IsStanding config) name x y rel old.names.entries scene.names sc.names);
   }
 
-  stops-finish : (device : VolumeView) (task : Task) → is_table task ≡ false → open_task_of (state_of_name name old.names.entries) ≡ Some task → IsPartFinished (turn_of task) old.volume device → StopsCommand config (C.Finish name reading) old device
-  stops-finish device task d there part =
-      let a = actor_of (state_of_name name old.names.entries) task there in
-      if_told _ (λ s is. stops-finish-at device task a.0 s d a.1
-      (told_at (λ v. PartAsked old.events v (state_of device) old.volume.faults device.faults (asked_in (turn_of task) old.events a.0 v)) (state_of old.volume) s is (part old.events a.0)))
-
-  -- the whole was asked
-  finished-part : (device : VolumeView) (task : Task) (f : Finished) (out_before out : List ℕ) → IsFinished (turn_of task) old.volume device out_before out f → IsPartFinished (turn_of task) old.volume device
-  finished-part device task f out_before out fin = λ n actor. if_told _ (λ s is.
-      part-all config actor reading task name n f.events old.volume.faults device.faults s (state_of device) out_before out f.outcome _
-      (told_at (λ v. HasAsked n f.events v (state_of device) old.volume.faults device.faults name out_before out f.outcome (asked_in (turn_of task) n actor v)) (state_of old.volume) s is (fin n actor)))
-
-  -- ---- the table
-
-  table-effect-at : (q : TableQuery) (actor : ℕ) (others : List ℕ) (s : State) → state_of_name name old.names.entries ≡ Some (S.Open (T.Table q) actor) → does (C.Finish name reading) s others ≡ Some (table_effect config (scene_with old s) name reading actor q)
-  unfolding effect_of_command
-  table-effect-at q actor others s e = ap (finish_state config others (scene_with old s) name reading) e
-
-  abbrev asked_table : TableQuery → Stage X → List ℕ → List ℕ → Finished → Type 0
-  asked_table q new out_before out f = IsTableAsked (turn_of (T.Table q)) q (cluster old.volume old.table) (cluster new.volume new.table) out_before out f
-
-  asks-table-at : (new : Stage X) (q : TableQuery) (actor : ℕ) (f : Finished) (out_before out1 out : List ℕ) (s : State) → state_of_name name old.names.entries ≡ Some (S.Open (T.Table q) actor) → state_of new.volume ≡ Some s → old.volume.faults ≤ new.volume.faults → new.events ≡ old.events + f.events → new.names.entries ≡ with_name name (state_after f.outcome) old.names.entries → out ≡ out1 ++ end_line name f.outcome → asked_table q new out_before out1 f → HasEffect old.events (scene_of new) old.volume.faults new.volume.faults out_before out (does (C.Finish name reading) s)
-  asks-table-at new q actor f out_before out1 out s there is le c n o h = record {
-    failed = [];
-    effect = table_effect config (scene_with old s) name reading actor q;
-    faults = AreFaults-none old.events (old.events + 1) old.volume.faults new.volume.faults le;
-    is = λ others agree. table-effect-at q actor others s there;
-    grows = omega arith;
-    scene_is = scene_here (state_of new.volume) s (old.events + 1) new.events _ new.table.state _ new.names.entries is (c ∙ ap (λ k. old.events + k) h.made_is) h.changed (n ∙ ap (λ v. with_name name (state_after v) old.names.entries) h.ended);
-    out_is = joined_end out_before out1 out (table_event_line name (table_line config reading q old.table.state).answer) _ (o ∙ ap (λ v. out1 ++ end_line name v) h.ended) h.out_is;
+  opens-by : (name : List ℕ) (reading : ℕ) (opening : Opening) (r : Result Task Outcome) (o : Opened Running) (actor : ℕ) (out_before out : List ℕ) → opened config opening reading ≡ r → IsOpened r o (Ready config) → actor ≡ length old.names.entries → new.cluster ≡ old.cluster → new.names.entries ≡ with_name name (state_opened actor o) old.names.entries → out ≡ out_before ++ text_opened name o → HasPrinted config scene old new out_before out false (opens name reading opening)
+  opens-by name reading opening (Ok task) (P.Task t) actor out_before out is h a same set e = record {
+    done = record {
+      effect = open_effect scene name (Ok task);
+      is = λ others agree. effect-open name reading opening others ∙ ap (λ v. Some (open_effect scene name v)) is;
+      numbered = tt;
+      count_is = plus-none scene.count;
+      rise = same-rise same;
+      scene_is = set-scene name (S.Open (record { task = t; actor = actor })) (S.Open (record { task = task; actor = length scene.names; answers = [] })) (record {
+        actor = sym (same-length (IsStanding config) old.names.entries scene.names sc.names) ∙ sym a;
+        stands_there = h.1.0;
+      }) same set;
+    };
+    spent_is = refl;
+    out_is = e;
   }
+    where
+      plus-none : (n : ℕ) → n ≡ n + 0
+      plus-none n = omega arith
+  opens-by name reading opening (Err outcome) (P.Ended ended) actor out_before out is h a same set e = record {
+    done = record {
+      effect = open_effect scene name (Err outcome);
+      is = λ others agree. effect-open name reading opening others ∙ ap (λ v. Some (open_effect scene name v)) is;
+      numbered = tt;
+      count_is = plus-none scene.count;
+      rise = same-rise same;
+      scene_is = set-scene name (state_after outcome) (state_after outcome) (same-after (IsStanding config) outcome) same (set ∙ ap (λ v. with_name name (state_after v) old.names.entries) h);
+    };
+    spent_is = refl;
+    out_is = e ∙ ap (λ v. out_before ++ text_opened name (P.Ended v)) h;
+  }
+    where
+      plus-none : (n : ℕ) → n ≡ n + 0
+      plus-none n = omega arith
+  opens-by name reading opening (Ok task) (P.Ended ended) actor out_before out is h a same set e = absurd h
+  opens-by name reading opening (Err outcome) (P.Task t) actor out_before out is h a same set e = absurd h
 
-  asks-table : (new : Stage X) (q : TableQuery) (f : Finished) (out_before out1 out : List ℕ) → open_task_of (state_of_name name old.names.entries) ≡ Some (T.Table q) → new.events ≡ old.events + f.events → new.names.entries ≡ with_name name (state_after f.outcome) old.names.entries → out ≡ out1 ++ end_line name f.outcome → asked_table q new out_before out1 f → DoesCommand config (C.Finish name reading) old new out_before out
-  asks-table new q f out_before out1 out there c n o h =
-      let a = actor_of (state_of_name name old.names.entries) (T.Table q) there in
-      if_told _ (λ s is. asks-table-at new q a.0 f out_before out1 out s a.1 (ap state_of h.device ∙ is) (omega (arith, ap (λ (d : VolumeView). d.faults) h.device)) c n o h)
+  pub does-open : (name : List ℕ) (reading : ℕ) (opening : Opening) (o : Opened Running) (actor : ℕ) (out_before out : List ℕ) → IsOpened (opened config opening reading) o (Ready config) → actor ≡ length old.names.entries → new.cluster ≡ old.cluster → new.names.entries ≡ with_name name (state_opened actor o) old.names.entries → out ≡ out_before ++ text_opened name o → HasPrinted config scene old new out_before out false (opens name reading opening)
+  does-open name reading opening o actor out_before out h a same set e = opens-by name reading opening (opened config opening reading) o actor out_before out refl h a same set e
 
-  -- ---- either
+  -- ---- names that are asked
 
-  abbrev task_done : Task → Stage X → List ℕ → List ℕ → Finished → Type 0
-  task_done task new out_before out f = IsTaskDone (turn_of task) (cluster old.volume old.table) (cluster new.volume new.table) out_before out f
+  module _ (turns : ℕ) (name : List ℕ) (reading : ℕ) where
+    abbrev asks_name : List ℕ → Option Effect
+    asks_name failed = asking_effect turns config failed scene name reading (at_name name scene.names)
 
-  pub does-task : (new : Stage X) (task : Task) (f : Finished) (out_before out1 out : List ℕ) → open_task_of (state_of_name name old.names.entries) ≡ Some task → new.events ≡ old.events + f.events → new.names.entries ≡ with_name name (state_after f.outcome) old.names.entries → out ≡ out1 ++ end_line name f.outcome → task_done task new out_before out1 f → DoesCommand config (C.Finish name reading) old new out_before out
-  does-task new (T.Table q) f out_before out1 out there c n o h = asks-table new q f out_before out1 out there c n o h
-  does-task new task f out_before out1 out there c n o h = does-finish new task f out_before out1 out refl h.1 there c n o h.0
+    lookup : SameLookup (IsStanding config) (at_name name old.names.entries) (at_name name scene.names)
+    lookup = same-lookup (IsStanding config) name old.names.entries scene.names sc.names
 
-  pub stops-task : (device : VolumeView) (task : Task) → open_task_of (state_of_name name old.names.entries) ≡ Some task → IsTaskStopped (turn_of task) old.volume device → StopsCommand config (C.Finish name reading) old device
-  stops-task device (T.Table q) there part = stops-before device (C.Finish name reading) (ap state_of part) (omega (arith, ap (λ (d : VolumeView). d.faults) part))
-  stops-task device task there part = stops-finish device task refl there part
+    pub refuses-ask : open_task_of (at_name name old.names.entries) ≡ None → world_of new.cluster ≡ world_of old.cluster → IsRefused scene new.cluster asks_name
+    refuses-ask none same = record {
+      none = λ failed. none-asks (IsStanding config) turns config failed scene name reading (at_name name old.names.entries) (at_name name scene.names) lookup none;
+      stays = same ∙ sc.world;
+    }
 
-  -- where all was asked, the first queries were
-  pub done-stopped : (new : Cluster) (task : Task) (f : Finished) (out_before out : List ℕ) → IsTaskDone (turn_of task) (cluster old.volume old.table) new out_before out f → IsTaskStopped (turn_of task) old.volume new.device
-  done-stopped new (T.Table q) f out_before out h = h.device
-  done-stopped new task f out_before out h = finished-part new.device task f out_before out h.0
+    module _ (mid : View) (e : mid ≡ record old.cluster { reading = reading }) (open_old : Open) (there : open_task_of (at_name name old.names.entries) ≡ Some open_old) where
+      found : (s : Standing) × ((at_name name scene.names ≡ Some (S.Open s)) × IsStanding config open_old s)
+      found = found-by (IsStanding config) open_old (at_name name old.names.entries) (at_name name scene.names) lookup there
 
-  refused_at : (o : Option TaskState) (others : List ℕ) (s : State) → open_task_of o ≡ None → finish_state config others (scene_with old s) name reading o ≡ None
-  refused_at (Some (S.Open task actor)) others s e = absurd cc
-  refused_at _ others s e = refl
+      abbrev standing : Standing
+      standing = found.0
 
-  refuses-finish-at : (device : VolumeView) (s : State) → open_task_of (state_of_name name old.names.entries) ≡ None → state_of device ≡ Some s → ((failed : List ℕ) → does (C.Finish name reading) s failed ≡ None) × (state_of device ≡ Some s)
+      told : world_of mid ≡ Some scene.world
+      told = ap world_of e ∙ sc.world
+
+      made-is : scene.count ≡ mid.made
+      made-is = sc.count ∙ ap (λ (v : View). v.made) (sym e)
+
+      faults-are : (made : List Made) (now : ℕ → ℕ) → Rise made (faults_at mid.devices) now → Rise made (faults_at old.cluster.devices) now
+      faults-are made now h = subst (λ (v : View). Rise made (faults_at v.devices) now) e h
+
+      numbered-are : (made : List Made) → AreNumbered mid.made made → AreNumbered scene.count made
+      numbered-are made h = subst (λ n. AreNumbered n made) (sym made-is) h
+
+      asked-same : (others : List ℕ) → asked_in turns config others reading scene standing ≡ asking turns config mid scene.world standing others
+      asked-same others =
+          ap (λ r. asked_on turns config others r scene.count scene.world standing (next config standing.task standing.answers)) (ap (λ (v : View). v.reading) (sym e))
+          ∙ ap (λ n. asked_on turns config others mid.reading n scene.world standing (next config standing.task standing.answers)) made-is
+
+      effect-is : (others : List ℕ) → asks_name others ≡ Some (asked_effect scene name (asking turns config mid scene.world standing others))
+      effect-is others = ap (asking_effect turns config others scene name reading) found.1.0 ∙ ap (λ a. Some (asked_effect scene name a)) (asked-same others)
+
+      pub stops-ask : StopsTurns turns mid new.cluster open_old → PartDone scene old.cluster new.cluster asks_name
+      stops-ask stops =
+          let p = stops config scene.world standing told found.1.1 in
+          record {
+            made = p.made;
+            is = λ others agree. (asked_effect scene name (asking turns config mid scene.world standing others), (effect-is others, p.is others agree));
+            numbered = numbered-are p.made p.numbered;
+            rise = faults-are p.made _ p.rise;
+            world_is = p.world_is;
+          }
+
+      module _ (open_new : Open) (turned : Turned) (out_before out1 : List ℕ) (does : DoesTurns turns mid new.cluster open_old open_new name out_before out1 turned) where
+        h : HasAsked config mid new.cluster scene.world open_new name out_before out1 turned (asking turns config mid scene.world standing)
+        h = does config scene.world standing told found.1.1
+
+        abbrev a : Asked
+        a = h.asked
+
+        effect-asked : (others : List ℕ) → Agrees others a.made → asks_name others ≡ Some (asked_effect scene name a)
+        effect-asked others agree = effect-is others ∙ ap (λ v. Some (asked_effect scene name v)) (h.is others agree)
+
+        -- all of it was asked, and so its first events were
+        pub asked-part : PartDone scene old.cluster new.cluster asks_name
+        asked-part = record {
+          made = a.made;
+          is = λ others agree. (asked_effect scene name a, (effect-asked others agree, take_all (length a.made) a.made (omega arith)));
+          numbered = numbered-are a.made h.numbered;
+          rise = faults-are a.made _ h.rise;
+          world_is = h.world_is ∙ ap Some h.left_is;
+        }
+
+        put-same : (t : Turned) → a.outcome ≡ outcome_of t → SameState (IsStanding config) (state_put open_new t) (state_of a.standing a.outcome)
+        put-same (T.Ended o) is = subst (λ x. SameState (IsStanding config) (state_after o) (state_of a.standing x)) (sym is) (same-after (IsStanding config) o)
+        put-same T.Asks is = subst (λ x. SameState (IsStanding config) (S.Open open_new) (state_of a.standing x)) (sym is) (h.standing is)
+        put-same T.Spent is = subst (λ x. SameState (IsStanding config) (S.Open open_new) (state_of a.standing x)) (sym is) (h.standing is)
+
+        pub does-ask : (out : List ℕ) → new.names.entries ≡ with_name name (state_put open_new turned) old.names.entries → out ≡ out1 ++ line_of_end name (outcome_of turned) → HasPrinted config scene old new out_before out (is_spent turned) asks_name
+        does-ask out set printed = record {
+          done = record {
+            effect = asked_effect scene name a;
+            is = effect-asked;
+            numbered = numbered-are a.made h.numbered;
+            count_is = refl;
+            rise = faults-are a.made _ h.rise;
+            scene_is = record {
+              count = ap (λ n. n + length a.made) made-is ∙ sym h.count_is;
+              world = h.world_is;
+              names = subst (λ ns. SameNames (IsStanding config) ns (with_name name (state_of a.standing a.outcome) scene.names)) (sym set)
+                  (same-with (IsStanding config) name (state_put open_new turned) (state_of a.standing a.outcome) (put-same turned h.outcome_is) old.names.entries scene.names sc.names);
+            };
+          };
+          spent_is = h.spent_is;
+          out_is = printed ∙ ap (λ v. v ++ line_of_end name (outcome_of turned)) h.out_is ∙ append_assoc out_before (event_lines name a.made) (line_of_end name (outcome_of turned)) ∙ ap (λ o. out_before ++ (event_lines name a.made ++ line_of_end name o)) (sym h.outcome_is);
+        }
+
+  -- a command that was done, by how its turns stopped
+  pub done-put : (turned : Turned) (out_before out : List ℕ) (f : List ℕ → Option Effect) → HasPrinted config scene old new out_before out (is_spent turned) f → done_by config scene old new out_before out (done_of turned) f
+  done-put (T.Ended outcome) out_before out f h = h
+  done-put T.Asks out_before out f h = h
+  done-put T.Spent out_before out f h = h
+
+-- ---- commands
+
+module _ {X : Type 0} (config : Configuration) (old new : Stage X) (name : List ℕ) (reading : ℕ) where
+  pub step-done : (out_before out : List ℕ) (done : Done) → IsAskingDone step_turns config name reading old new out_before out done → IsCommandDone config (C.Step name reading) old new out_before out done
   unfolding effect_of_command
-  refuses-finish-at device s e is = (λ failed. refused_at (state_of_name name old.names.entries) failed s e, is)
+  step-done out_before out done h = h
 
-  pub refuses-finish : (device : VolumeView) → open_task_of (state_of_name name old.names.entries) ≡ None → state_of device ≡ state_of old.volume → RefusesCommand config (C.Finish name reading) old device
-  refuses-finish device e same = if_told _ (λ s is. refuses-finish-at device s e (same ∙ is))
+  pub step-stopped : IsAskingStopped step_turns config name reading old new → IsCommandStopped config (C.Step name reading) old new
+  unfolding effect_of_command
+  step-stopped h = h
+
+  pub finish-done : (out_before out : List ℕ) (done : Done) → IsAskingDone finish_turns config name reading old new out_before out done → IsCommandDone config (C.Finish name reading) old new out_before out done
+  unfolding effect_of_command
+  finish-done out_before out done h = h
+
+  pub finish-stopped : IsAskingStopped finish_turns config name reading old new → IsCommandStopped config (C.Finish name reading) old new
+  unfolding effect_of_command
+  finish-stopped h = h
+
+  pub step-if : (out_before out : List ℕ) (r : Result Done NoMemory) → IfOk r (IsAskingDone step_turns config name reading old new out_before out) → IfOk r (IsCommandDone config (C.Step name reading) old new out_before out)
+  step-if out_before out (Ok d) h = step-done out_before out d h
+  step-if out_before out (Err e) h = tt
+
+  pub step-unless : (r : Result Done NoMemory) → OnErr r (IsAskingStopped step_turns config name reading old new) → OnErr r (IsCommandStopped config (C.Step name reading) old new)
+  step-unless (Ok d) h = tt
+  step-unless (Err e) h = step-stopped h
+
+  pub finish-if : (out_before out : List ℕ) (r : Result Done NoMemory) → IfOk r (IsAskingDone finish_turns config name reading old new out_before out) → IfOk r (IsCommandDone config (C.Finish name reading) old new out_before out)
+  finish-if out_before out (Ok d) h = finish-done out_before out d h
+  finish-if out_before out (Err e) h = tt
+
+  pub finish-unless : (r : Result Done NoMemory) → OnErr r (IsAskingStopped finish_turns config name reading old new) → OnErr r (IsCommandStopped config (C.Finish name reading) old new)
+  finish-unless (Ok d) h = tt
+  finish-unless (Err e) h = finish-stopped h

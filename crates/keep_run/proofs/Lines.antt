@@ -1,21 +1,23 @@
--- What a line does, from what its command does: `line-empty-told`, `line-done-told`, `line-fault-told`, `line-stops-told` and `line-refused-told`, one for each way in which a line ends; `scene-state`.
-use Rattle.std.proofs.Common.{◌≡◌, ◌≢◌, ℕ, ◌+◌, List, [], ◌∷◌, ◌++◌, length, take, Option, None, Some, option_map, option_and_then, Ok, Err, IfSome, refl, sym, ◌∙◌, ap, subst, arith}
+-- What a line does, from what its command does: `empty-told`, `bad-told` and `memory-told` before there is a command; `written-told`, `stopped-told` and `refused-told` after it.
+use Rattle.std.proofs.Common.{◌≡◌, ◌≢◌, ℕ, ◌+◌, Bool, true, false, List, [], ◌∷◌, ◌++◌, length, take, Option, None, Some, Ok, Err, Result, inl, inr, refl, sym, ◌∙◌, ap, subst, arith}
+use Rattle.std.specs.Prelude.{option_and_then}
 use Rattle.std.proofs.lemmas.List.{append-nil}
 use Rattle.std.specs.Io.KnownBytes.{Appends}
-use Rattle.keep_base.specs.Sources.{AppendsPrefix}
-use Rattle.keep_spec.specs.Config.{Configuration}
-use Rattle.keep_spec.specs.declared.status.Status.TheVariants as St
-use Rattle.keep_event.specs.Device.{State}
-use Rattle.keep_history.specs.declared.task.Command.{Command}
-use Rattle.keep_history.specs.Effects.{Scene, Effect, effect_of_command, effect_of_line, no_effect}
-use Rattle.keep_history.specs.Script.{command_of}
-use Rattle.keep_history.proofs.Faults.{AreFaults-none}
 use Rattle.keep_base.specs.declared.lines.Line.{Line}
-use Rattle.keep_run.specs.Scenes.{scene_of, scene_with, Passage, passage}
+use Rattle.keep_spec.specs.Config.{Configuration}
+use Rattle.keep_spec.specs.declared.status.Status.{Status}
+use Rattle.keep_spec.specs.declared.status.Status.TheVariants as St
+use Rattle.keep_history.specs.declared.task.Command.{Command}
+use Rattle.keep_history.specs.Effects.{Scene, Effect, command_in, effect_of_command, effect_of_line, no_event}
+use Rattle.keep_history.specs.Names.{seen_names}
+use Rattle.keep_history.specs.Script.{command_of}
+use Rattle.keep_run.specs.Commands.{HasEffect, HasPrinted, PartDone, IsStopped, IsWritten, IsCommandDone, IsCommandStopped, IsLineDone, line_done_by}
+use Rattle.keep_run.specs.Scenes.{IsSceneOf}
+use Rattle.keep_run.specs.Standing.{IsStanding}
+use Rattle.keep_run.specs.declared.stage.Done.TheVariants as D
 use Rattle.keep_run.specs.declared.stage.Stage.{Stage}
-use Rattle.keep_volume.specs.Calls.{state_of}
-use Rattle.keep_run.specs.Effects.{HasEffect, PartDone, IsAfter}
-use Rattle.keep_run.specs.Runs.{LineDone, IsLineDone, BothTold}
+use Rattle.keep_run.proofs.Faults.{rise-none}
+use Rattle.keep_run.proofs.Names.{same-seen}
 
 pub not_empty : (text : List ℕ) → length text ≢ 0 → text ≢ []
 not_empty text ne e = ne (ap length e)
@@ -24,102 +26,105 @@ pub is_empty : (text : List ℕ) → length text ≡ 0 → text ≡ []
 is_empty [] e = refl
 is_empty (x ∷ xs) e = absurd (omega arith)
 
-scene-state-at : (at : State → Scene) (o : Option State) (scene : Scene) → ((s : State) → (at s).state ≡ s) → option_map at o ≡ Some scene → o ≡ Some scene.state
-scene-state-at at None scene same e = absurd cc
-scene-state-at at (Some s) scene same e = ap Some (sym (same s)) ∙ ap (option_map (λ (x : Scene). x.state)) e
-
-pub scene-state : {X : Type 0} (stage : Stage X) (scene : Scene) → scene_of stage ≡ Some scene → state_of stage.volume ≡ Some scene.state
-scene-state stage scene e = scene-state-at (scene_with stage) (state_of stage.volume) scene (λ s. refl) e
-
-effect-empty : (config : Configuration) (failed : List ℕ) (scene : Scene) (text : List ℕ) → text ≡ [] → effect_of_line config failed scene text ≡ Some (no_effect scene)
+effect-empty : (config : Configuration) (failed : List ℕ) (scene : Scene) (text : List ℕ) → text ≡ [] → effect_of_line config failed scene text ≡ Some (no_event scene [])
 effect-empty config failed scene text e = rw e refl
 
-effect-command : (config : Configuration) (failed : List ℕ) (scene : Scene) (text : List ℕ) (command : Command) → text ≢ [] → command_of scene.names text ≡ Some command → effect_of_line config failed scene text ≡ effect_of_command config failed scene command
-effect-command config failed scene [] command ne e = absurd (ne refl)
-effect-command config failed scene (x ∷ xs) command ne e = ap (option_and_then (effect_of_command config failed scene)) e
+effect-of : (config : Configuration) (failed : List ℕ) (scene : Scene) (text : List ℕ) (o : Option Command) → text ≢ [] → command_in config scene text ≡ o → effect_of_line config failed scene text ≡ option_and_then (effect_of_command config failed scene) o
+effect-of config failed scene [] o ne e = absurd (ne refl)
+effect-of config failed scene (x ∷ xs) o ne e = ap (option_and_then (effect_of_command config failed scene)) e
 
--- the passage from a stage to itself, whose device is in this state
-abbrev staying : {X : Type 0} → Stage X → Option State → Passage
-staying old o = record { scene = option_map (scene_with old) o; state = o; before = old.volume.faults; now = old.volume.faults }
+module _ (config : Configuration) (line : Line) {S : Type 0} (old : Stage S) where
+  abbrev f : Scene → List ℕ → Option Effect
+  f scene failed = effect_of_line config failed scene line.text
 
-module _ (config : Configuration) (line : Line) {X : Type 0} (old : Stage X) where
-  pub line-empty-told : (o : Option State) (written : Option (List ℕ)) → line.text ≡ [] → BothTold (option_map (scene_with old) o) written (λ scene t. IsLineDone config line scene (staying old o) t written (Ok tt))
-  line-empty-told None written e = tt
-  line-empty-told (Some s) None e = tt
-  line-empty-told (Some s) (Some t) e = (
+  -- a scene reads the line as the stage does
+  reads : (scene : Scene) (o : Option Command) → IsSceneOf config old scene → command_of config (seen_names old.names.entries) line.text ≡ o → command_in config scene line.text ≡ o
+  reads scene o sc e = ap (λ names. command_of config names line.text) (sym (same-seen (IsStanding config) old.names.entries scene.names sc.names)) ∙ e
+
+  same-made : (n : ℕ) → n ≡ n + 0
+  same-made n = omega arith
+
+  pub empty-told : (written : Option (List ℕ)) → line.text ≡ [] → IsLineDone config line old old written written (Ok tt)
+  empty-told written e scene t sc w = (
     record {
-      out = [];
-      effect = record {
-        failed = [];
-        effect = no_effect (scene_with old s);
-        faults = AreFaults-none old.events old.events old.volume.faults old.volume.faults (omega arith);
-        is = λ others agree. effect-empty config others (scene_with old s) line.text e;
-        grows = omega arith;
-        scene_is = refl;
-        out_is = refl;
-      };
+      effect = no_event scene [];
+      is = λ others agree. effect-empty config others scene line.text e;
+      numbered = tt;
+      count_is = same-made scene.count;
+      rise = rise-none _ _ (λ device. omega arith);
+      scene_is = sc;
     },
-    ap Some (sym (append-nil t)),
+    (refl, w ∙ ap Some (sym (append-nil t))),
   )
 
-  pub line-refused-told : (o : Option State) (written : Option (List ℕ)) → BothTold (option_map (scene_with old) o) written (λ scene t. IsLineDone config line scene (staying old o) t written (Err St.NoMemory))
-  line-refused-told None written = tt
-  line-refused-told (Some s) None = tt
-  line-refused-told (Some s) (Some t) = (
-    record { made = 0; failed = []; faults = AreFaults-none old.events (old.events + 0) old.volume.faults old.volume.faults (omega arith); is = λ others agree. refl },
-    refl,
-  )
+  pub bad-told : (n : ℕ) (written : Option (List ℕ)) → n ≡ line.number → line.text ≢ [] → command_of config (seen_names old.names.entries) line.text ≡ None → IsLineDone config line old old written written (Err (St.BadLine n))
+  bad-told n written number some e scene t sc w =
+      (number, (record { none = λ failed. effect-of config failed scene line.text None some (reads scene None sc e); stays = sc.world }, w))
 
-  module _ (new : Stage X) (command : Command) (some : line.text ≢ []) (is_command : command_of old.names.entries line.text ≡ Some command) where
-    abbrev p : Passage
-    p = passage old new
+  pub memory-told : (written : Option (List ℕ)) → IsLineDone config line old old written written (Err St.NoMemory)
+  memory-told written scene t sc w = (inl sc.world, w)
 
-    abbrev does : State → List ℕ → Option Effect
-    does s failed = effect_of_command config failed (scene_with old s) command
+  module _ (new : Stage S) (command : Command) (some : line.text ≢ []) (e : command_of config (seen_names old.names.entries) line.text ≡ Some command) where
+    abbrev does : Scene → List ℕ → Option Effect
+    does scene failed = effect_of_command config failed scene command
 
-    line-done : (s : State) (out_before out : List ℕ) → out_before ≡ [] → HasEffect old.events p.scene p.before p.now out_before out (does s) → LineDone config line.text (scene_with old s) p
-    line-done s out_before out nil h = record {
-      out = out;
-      effect = record {
-        failed = h.failed;
-        effect = h.effect;
-        faults = h.faults;
-        is = λ others agree. effect-command config others (scene_with old s) line.text command some is_command ∙ h.is others agree;
-        grows = h.grows;
-        scene_is = h.scene_is;
-        out_is = h.out_is ∙ ap (λ v. v ++ h.effect.text) nil;
-      };
+    same : (scene : Scene) → IsSceneOf config old scene → (failed : List ℕ) → f scene failed ≡ does scene failed
+    same scene sc failed = effect-of config failed scene line.text (Some command) some (reads scene (Some command) sc e)
+
+    line-effect : (scene : Scene) → IsSceneOf config old scene → HasEffect config scene old new (does scene) → HasEffect config scene old new (f scene)
+    line-effect scene sc d = record {
+      effect = d.effect;
+      is = λ others agree. same scene sc others ∙ d.is others agree;
+      numbered = d.numbered;
+      count_is = d.count_is;
+      rise = d.rise;
+      scene_is = d.scene_is;
     }
 
-    pub line-done-told : (o : Option State) (taken taken' : Option (List ℕ)) (out_before out written : List ℕ) → out_before ≡ [] → IfSome o (λ s. HasEffect old.events p.scene p.before p.now out_before out (does s)) → written ≡ out → Appends taken taken' written → BothTold (option_map (scene_with old) o) taken (λ scene t. IsLineDone config line scene p t taken' (Ok tt))
-    unfolding line-done
-    line-done-told None taken taken' out_before out written nil h w a = tt
-    line-done-told (Some s) None taken' out_before out written nil h w a = tt
-    line-done-told (Some s) (Some t) None out_before out written nil h w a = absurd a
-    line-done-told (Some s) (Some t) (Some t') out_before out written nil h w a =
-        (line-done s out_before out nil h, ap Some (a ∙ ap (λ v. t ++ v) w))
+    appended : (before written : Option (List ℕ)) (bytes text t : List ℕ) → Appends before written bytes → before ≡ Some t → bytes ≡ text → written ≡ Some (t ++ text)
+    appended None written bytes text t a b g = absurd cc
+    appended (Some x) None bytes text t a b g = absurd a
+    appended (Some x) (Some y) bytes text t a b g = ap Some (a ∙ ap (λ v. v ++ bytes) (same-list b) ∙ ap (λ v. t ++ v) g)
+      where
+        same-list : Some x ≡ Some t → x ≡ t
+        same-list b = cc
 
-    pub line-fault-told : (o : Option State) (taken taken' : Option (List ℕ)) (out_before out written : List ℕ) → out_before ≡ [] → IfSome o (λ s. HasEffect old.events p.scene p.before p.now out_before out (does s)) → written ≡ out → AppendsPrefix taken taken' written → BothTold (option_map (scene_with old) o) taken (λ scene t. IsLineDone config line scene p t taken' (Err St.WriteFault))
-    unfolding line-done
-    line-fault-told None taken taken' out_before out written nil h w a = tt
-    line-fault-told (Some s) None taken' out_before out written nil h w a = tt
-    line-fault-told (Some s) (Some t) None out_before out written nil h w (k, within, a) = absurd a
-    line-fault-told (Some s) (Some t) (Some t') out_before out written nil h w (k, within, a) =
-        let d = line-done s out_before out nil h in
-        (d, (scene-state new h.effect.scene h.scene_is, (k, ap Some (a ∙ ap (λ v. t ++ take k v) w))))
+    written-by : (spent : Bool) (scene : Scene) (t : List ℕ) (before written : Option (List ℕ)) (out_before out : List ℕ) (r : Result (Unit {0}) Status) → IsSceneOf config old scene → before ≡ Some t → out_before ≡ [] → HasPrinted config scene old new out_before out spent (does scene) → IsWritten spent before written out r → line_done_by config line.number scene old new t written r (f scene)
+    unfolding line-effect
+    written-by spent scene t before written out_before out (Ok done) sc b nil h (not_spent, a) =
+        (line-effect scene sc h.done, (h.spent_is ∙ not_spent, appended before written out h.done.effect.text t a b (h.out_is ∙ ap (λ v. v ++ h.done.effect.text) nil)))
+    written-by spent scene t before written out_before out (Err St.PortFault) sc b nil h (is_spent, a) =
+        (line-effect scene sc h.done, (h.spent_is ∙ is_spent, appended before written out h.done.effect.text t a b (h.out_is ∙ ap (λ v. v ++ h.done.effect.text) nil)))
+    written-by spent scene t before written out_before out (Err St.WriteFault) sc b nil h (k, within, a) =
+        (line-effect scene sc h.done, (k, appended before written (take k out) (take k h.done.effect.text) t a b (ap (take k) (h.out_is ∙ ap (λ v. v ++ h.done.effect.text) nil))))
+    written-by spent scene t before written out_before out (Err other) sc b nil h a = absurd a
 
-    part-same : (from before now : ℕ) (s : State) (state : Option State) (f f' : List ℕ → Option Effect) → ((F : List ℕ) → f F ≡ f' F) → PartDone from s state before now f → PartDone from s state before now f'
-    part-same from before now s state f f' same q = record {
-      made = q.made;
-      failed = q.failed;
-      faults = q.faults;
-      is = λ others agree. subst (λ v. IsAfter v s state q.made) (same others) (q.is others agree);
+    -- the text was written, or a beginning of it
+    pub whole-told : (before written : Option (List ℕ)) (out_before out bytes : List ℕ) (r : Result (Unit {0}) Status) → out_before ≡ [] → bytes ≡ out → IsCommandDone config command old new out_before out D.Whole → IsWritten false before written bytes r → IsLineDone config line old new before written r
+    whole-told before written out_before out bytes r nil same_bytes d w scene t sc b =
+        written-by false scene t before written out_before out r sc b nil (d scene sc) (subst (λ v. IsWritten false before written v r) same_bytes w)
+
+    pub spent-told : (before written : Option (List ℕ)) (out_before out bytes : List ℕ) (r : Result (Unit {0}) Status) → out_before ≡ [] → bytes ≡ out → IsCommandDone config command old new out_before out D.Spent → IsWritten true before written bytes r → IsLineDone config line old new before written r
+    spent-told before written out_before out bytes r nil same_bytes d w scene t sc b =
+        written-by true scene t before written out_before out r sc b nil (d scene sc) (subst (λ v. IsWritten true before written v r) same_bytes w)
+
+    pub refused-told : (n : ℕ) (written : Option (List ℕ)) (out_before out : List ℕ) → n ≡ line.number → IsCommandDone config command old new out_before out D.Refused → IsLineDone config line old new written written (Err (St.BadLine n))
+    refused-told n written out_before out number d scene t sc w =
+        let r = d scene sc in
+        (number, (record { none = λ failed. same scene sc failed ∙ r.none failed; stays = r.stays }, w))
+
+    part-line : (scene : Scene) → IsSceneOf config old scene → PartDone scene old.cluster new.cluster (does scene) → PartDone scene old.cluster new.cluster (f scene)
+    part-line scene sc p = record {
+      made = p.made;
+      is = λ others agree. let q = p.is others agree in (q.0, (same scene sc others ∙ q.1.0, q.1.1));
+      numbered = p.numbered;
+      rise = p.rise;
+      world_is = p.world_is;
     }
 
-    pub line-stops-told : (o : Option State) (written : Option (List ℕ)) → IfSome o (λ s. PartDone old.events s p.state p.before p.now (does s)) → BothTold (option_map (scene_with old) o) written (λ scene t. IsLineDone config line scene p t written (Err St.NoMemory))
-    line-stops-told None written h = tt
-    line-stops-told (Some s) None h = tt
-    line-stops-told (Some s) (Some t) h = (
-      part-same old.events p.before p.now s p.state (does s) (λ failed. effect_of_line config failed (scene_with old s) line.text) (λ F. sym (effect-command config F (scene_with old s) line.text command some is_command)) h,
-      refl,
-    )
+    pub stopped-told : (written : Option (List ℕ)) → IsCommandStopped config command old new → IsLineDone config line old new written written (Err St.NoMemory)
+    stopped-told written d scene t sc w = (by (d scene sc), w)
+      where
+        by : IsStopped scene old.cluster new.cluster (does scene) → IsStopped scene old.cluster new.cluster (f scene)
+        by (inl stays) = inl stays
+        by (inr p) = inr (part-line scene sc p)

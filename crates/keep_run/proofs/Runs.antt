@@ -1,54 +1,59 @@
--- A run, one line after another: `going-start` and `going-more` for the lines so far, `ended-done`, `ended-error` and `ended-line` for its ends; `AllTold-map`.
-use Rattle.std.proofs.Common.{◌≡◌, ℕ, zero, suc, ◌+◌, ◌≤◌, List, [], ◌∷◌, ◌++◌, length, take, Option, None, Some, Ok, Err, option_map, refl, sym, ◌∙◌, ap, subst, arith, append_assoc, inl, inr}
+-- A run, one line after another: `going-start` and `going-more` for the lines so far; `ran-done`, `ran-error` and `ran-line` for its ends.
+use Rattle.std.proofs.Common.{◌≡◌, ◌≤◌, ℕ, suc, ◌+◌, true, false, List, [], ◌∷◌, ◌++◌, length, take, Option, None, Some, Ok, Err, inl, inr, refl, sym, ◌∙◌, ap, subst, arith, append_assoc, length-append}
 use Rattle.std.proofs.lemmas.List.{append-nil}
-use Rattle.std.proofs.Math.Seq.{take-append-add}
-use Rattle.keep_base.specs.Lines.{IsNext, IsGiven}
+use Rattle.std.specs.Io.KnownBytes.{Keeps, IsAtEnd, prepend_known}
+use Rattle.keep_base.specs.Lines.{IsNext, IsGiven, IsNextJudged}
 use Rattle.keep_base.specs.declared.lines.Line.{Line}
 use Rattle.keep_base.specs.declared.lines.LineError.{LineError}
 use Rattle.keep_base.specs.declared.lines.LineError.TheVariants as E
-use Rattle.keep_spec.specs.Lines.{cut, text_of, fits, line_too_long, input_too_long, verdict_of}
+use Rattle.keep_spec.specs.Lines.{cut, text_of, newlines, Verdict, fits, line_too_long, input_too_long, verdict_of}
 use Rattle.keep_spec.specs.Config.{Configuration}
 use Rattle.keep_spec.specs.declared.status.Status.{Status}
 use Rattle.keep_spec.specs.declared.status.Status.TheVariants as St
-use Rattle.keep_event.specs.Device.{State}
-use Rattle.keep_history.specs.Effects.{Scene, Effect, effect_of_line}
-use Rattle.keep_history.specs.Run.{End, line_max, input_max, line_after, and_then, run_lines, Passes, at_start}
-use Rattle.keep_history.specs.Ended.{IsExact, IsStopped}
-use Rattle.keep_history.proofs.Faults.{AreFaults-none, AreFaults-later, AreFaults-join, Agree-left, Agree-right}
-use Rattle.keep_run.specs.Effects.{PartDone, IsAfter}
-use Rattle.keep_run.specs.Runs.{LineDone, IsLineDone, BothTold, AllTold, Beginning, beginning, lines_run, PassesFrom, Going, Ended, status_of_line}
-use Rattle.keep_run.specs.Scenes.{Passage}
+use Rattle.keep_event.specs.World.{new_world}
+use Rattle.keep_cluster.specs.Cluster.{world_of, faults_at}
+use Rattle.keep_history.specs.Effects.{Effect, Made, effect_of_line}
+use Rattle.keep_history.specs.Ended.{place_at, left_after, faulty}
+use Rattle.keep_history.specs.Run.{Progress, ended_by, at_start, and_then, line_max, input_max, verdict_on, run_lines}
+use Rattle.keep_run.specs.Commands.{HasEffect, IsRefused, PartDone, IsStopped, IsLineDone, line_done_by}
+use Rattle.keep_run.specs.Faults.{Agrees, AreNumbered, Rise}
+use Rattle.keep_run.specs.Going.{Going, status_of_line}
+use Rattle.keep_run.specs.Runs.{did_by, Beginning, beginning, lines_run, lines_place, IsRunOut, AreDone, LineMore, HowLinesEnded, LinesRan}
+use Rattle.keep_run.specs.Scenes.{IsFresh}
+use Rattle.keep_run.specs.Standing.{AreStates}
+use Rattle.keep_run.specs.declared.stage.Stage.{Stage}
+use Rattle.keep_run.proofs.Faults.{Agrees-left, Agrees-right, agrees-faulty, numbered-append, rise-none, rise-append}
+use Rattle.keep_run.proofs.Pieces.{read-start, read-more, read-out}
+use Rattle.keep_run.proofs.Places.{run-end, run-step, run-spent, run-bad, run-long, run-large, place-start, place-more, piece-effect}
 
-pub AllTold-map : {A B C : Type 0} (a : Option A) (b : Option B) (c : Option C) (P Q : A → B → C → Type 0) → ((x : A) (y : B) (z : C) → P x y z → Q x y z) → AllTold a b c P → AllTold a b c Q
-AllTold-map None b c P Q f h = tt
-AllTold-map (Some a) None c P Q f h = tt
-AllTold-map (Some a) (Some b) None P Q f h = tt
-AllTold-map (Some a) (Some b) (Some c) P Q f h = f a b c h
+same-some : {X : Type 0} (x y : X) → Some x ≡ Some y → x ≡ y
+same-some x y e = cc
 
--- ONE PIECE
-run-step : (c : Configuration) (failed : List ℕ) (taken number : ℕ) (sofar after : Effect) (piece : List ℕ) (rest : List (List ℕ)) → verdict_of line_max input_max taken (length (text_of piece)) (length piece) ≡ fits → line_after c failed sofar (text_of piece) ≡ Some after → run_lines c failed taken number sofar (piece ∷ rest) ≡ run_lines c failed (taken + length piece) (number + 1) after rest
-unfolding run_lines
-run-step c failed taken number sofar after piece rest v e = rw (v, e) refl
+no-some : {X : Type 0} (x : X) → None ≡ Some x → ⊥
+no-some x e = cc
 
-run-end : (c : Configuration) (failed : List ℕ) (taken number : ℕ) (sofar : Effect) → run_lines c failed taken number sofar [] ≡ record { status = St.Done; effect = sofar }
-unfolding run_lines
-run-end c failed taken number sofar = refl
+plus-none : (n : ℕ) → n ≡ n + 0
+plus-none n = omega arith
 
-run-bad : (c : Configuration) (failed : List ℕ) (taken number : ℕ) (sofar : Effect) (piece : List ℕ) (rest : List (List ℕ)) → verdict_of line_max input_max taken (length (text_of piece)) (length piece) ≡ fits → line_after c failed sofar (text_of piece) ≡ None → run_lines c failed taken number sofar (piece ∷ rest) ≡ record { status = St.BadLine (number + 1); effect = sofar }
-unfolding run_lines
-run-bad c failed taken number sofar piece rest v e = rw (v, e) refl
-
-run-long : (c : Configuration) (failed : List ℕ) (taken number : ℕ) (sofar : Effect) (piece : List ℕ) (rest : List (List ℕ)) → verdict_of line_max input_max taken (length (text_of piece)) (length piece) ≡ line_too_long → run_lines c failed taken number sofar (piece ∷ rest) ≡ record { status = St.LineTooLong (number + 1); effect = sofar }
-unfolding run_lines
-run-long c failed taken number sofar piece rest v = rw v refl
-
-run-large : (c : Configuration) (failed : List ℕ) (taken number : ℕ) (sofar : Effect) (piece : List ℕ) (rest : List (List ℕ)) → verdict_of line_max input_max taken (length (text_of piece)) (length piece) ≡ input_too_long → run_lines c failed taken number sofar (piece ∷ rest) ≡ record { status = St.InputTooLong; effect = sofar }
-unfolding run_lines
-run-large c failed taken number sofar piece rest v = rw v refl
-
-pub passes-here : (c : Configuration) (failed : List ℕ) (taken number : ℕ) (sofar : Effect) (pieces : List (List ℕ)) → Passes c failed taken number sofar pieces sofar.scene.state sofar.text
-passes-here c failed taken number sofar [] = (refl, refl)
-passes-here c failed taken number sofar (piece ∷ rest) = inl (refl, refl)
+pub going-start : {S : Type 0} (config : Configuration) (taken number : ℕ) (bytes : List ℕ) (left : Option (List ℕ)) (stage : Stage S) (t : List ℕ) (written : Option (List ℕ)) → IsFresh config stage → left ≡ Some bytes → world_of stage.cluster ≡ Some (new_world config) → written ≡ Some t → Going config (beginning taken number bytes) taken number left stage stage t written
+going-start config taken number bytes left stage t written fresh l told w = record {
+  lines = 0;
+  rest = bytes;
+  sofar = at_start config;
+  left_is = l;
+  scene_is = record { count = sym fresh.made; world = told; names = subst (λ names. AreStates config names []) (sym fresh.names) tt };
+  written_is = w ∙ ap Some (sym (append-nil t));
+  numbered = tt;
+  count_is = refl;
+  rise = rise-none _ _ (λ device. omega arith);
+  are_read = read-start bytes;
+  pieces = none-plus (length (cut bytes));
+  goes = λ others agree. refl;
+  comes = λ others agree. place-start config others taken (at_start config) (cut bytes);
+}
+  where
+    none-plus : (n : ℕ) → n ≡ 0 + n
+    none-plus n = omega arith
 
 -- the line that comes next was given
 pub record Given (taken taken' : ℕ) (rest : List ℕ) (text : List ℕ) (left' : Option (List ℕ)) : Type 0 where
@@ -56,220 +61,272 @@ pub record Given (taken taken' : ℕ) (rest : List ℕ) (text : List ℕ) (left'
   pub left_is : left' ≡ Some rest'
   pub given : IsGiven taken taken' rest rest' text
 
-pub given_of : (taken number taken' : ℕ) (rest : List ℕ) (line : Line) (left' : Option (List ℕ)) → IsNext taken number (Some rest) (Ok (Some line)) taken' left' → Given taken taken' rest line.text left'
+given_of : (taken number taken' : ℕ) (rest : List ℕ) (line : Line) (left' : Option (List ℕ)) → IsNext taken number (Some rest) (Ok (Some line)) taken' left' → Given taken taken' rest line.text left'
 given_of taken number taken' rest line None h = absurd h
 given_of taken number taken' rest line (Some rest') h = record { rest' = rest'; left_is = refl; given = h }
 
-pub fits_piece : (taken : ℕ) (text piece : List ℕ) → text ≡ text_of piece → verdict_of line_max input_max taken (length text) (length piece) ≡ fits → verdict_of line_max input_max taken (length (text_of piece)) (length piece) ≡ fits
-fits_piece taken text piece t v = rw (← t) v
+module _ {S : Type 0} (config : Configuration) (b : Beginning) (old mid : Stage S) (t : List ℕ) (taken number : ℕ) (left : Option (List ℕ)) (out : Option (List ℕ)) (g : Going config b taken number left old mid t out) where
+  abbrev sofar : Progress
+  sofar = g.sofar
 
--- ONE LINE
-line_here : (config : Configuration) (others : List ℕ) (scene : Scene) (effect : Option Effect) (text piece : List ℕ) → text ≡ text_of piece → effect_of_line config others scene text ≡ effect → effect_of_line config others scene (text_of piece) ≡ effect
-line_here config others scene effect text piece t e = ap (effect_of_line config others scene) (sym t) ∙ e
+  -- ---- one line
 
-joined_out : (t a b o : List ℕ) (out' : Option (List ℕ)) → out' ≡ Some ((t ++ a) ++ o) → o ≡ [] ++ b → out' ≡ Some (t ++ (a ++ b))
-joined_out t a b o out' e f = e ∙ ap (λ v. Some ((t ++ a) ++ v)) f ∙ ap Some (append_assoc t a b)
+  module _ (taken' : ℕ) (left' : Option (List ℕ)) (line : Line) (gv : Given taken taken' g.rest line.text left') where
+    abbrev piece : List ℕ
+    piece = gv.given.piece
 
-pub going-start : (config : Configuration) (taken number : ℕ) (left : Option (List ℕ)) (state : Option State) (scene : State → Option Scene) (out : Option (List ℕ)) (before : ℕ) → ((s : State) → state ≡ Some s → scene s ≡ Some (at_start s).scene) → AllTold left state out (λ bytes s t. Going config (beginning taken number bytes s t) taken number left (record { scene = scene s; state = state; before = before; now = before }) out)
-going-start config taken number None state scene out before here = tt
-going-start config taken number (Some bytes) None scene out before here = tt
-going-start config taken number (Some bytes) (Some s) scene None before here = tt
-going-start config taken number (Some bytes) (Some s) scene (Some t) before here = record {
-  rest = bytes;
-  left_is = refl;
-  sofar = at_start s;
-  scene_is = here s refl;
-  out_is = ap Some (sym (append-nil t));
-  failed = [];
-  faults = AreFaults-none 0 0 before before (omega arith);
-  goes = λ others agree. refl;
-  passes = λ others agree x w p. p;
-}
+    fits-piece : verdict_on taken piece ≡ fits
+    fits-piece = ap (λ x. verdict_of line_max input_max taken (length x) (length piece)) (sym gv.given.text_is) ∙ gv.given.fits_in
 
--- a line after a passage, and both as one
-abbrev pub onto : Passage → Passage → Passage
-onto p q = record { scene = q.scene; state = q.state; before = p.now; now = q.now }
+    first : cut g.rest ≡ piece ∷ cut gv.rest'
+    first = gv.given.first
 
-abbrev pub joined : Passage → Passage → Passage
-joined p q = record { scene = q.scene; state = q.state; before = p.before; now = q.now }
+    effect-here : (others : List ℕ) (o : Option Effect) → effect_of_line config others sofar.scene line.text ≡ o → effect_of_line config others sofar.scene (text_of piece) ≡ o
+    effect-here others o e = ap (effect_of_line config others sofar.scene) (sym gv.given.text_is) ∙ e
 
-module _ (config : Configuration) (b : Beginning) where
-  more : (taken number taken' number' : ℕ) (left left' : Option (List ℕ)) (p q : Passage) (out out' : Option (List ℕ)) (line : Line) → (g : Going config b taken number left p out) → Given taken taken' g.rest line.text left' → number' ≡ number + 1 → p.now ≤ q.now → IsLineDone config line g.sofar.scene (onto p q) (b.text ++ g.sofar.text) out' (Ok tt) → Going config b taken' number' left' (joined p q) out'
-  more taken number taken' number' left left' p q out out' line g gv num later done =
-      let v = gv.given in
-      let d = done.0.effect in
-      let from = g.sofar.scene.count in
-      let upto = d.effect.scene.count in
-      let verdict = fits_piece taken line.text v.piece v.text_is v.fits_in in
-      record {
-        rest = gv.rest';
-        left_is = gv.left_is;
-        sofar = and_then g.sofar d.effect;
-        scene_is = d.scene_is;
-        out_is = joined_out b.text g.sofar.text d.effect.text done.0.out out' done.1 d.out_is;
-        failed = g.failed ++ d.failed;
-        faults = AreFaults-join 0 from upto p.before p.now q.now g.failed d.failed (omega arith) d.grows later g.faults d.faults;
-        goes = λ others agree.
-            let agree0 = Agree-left 0 from upto p.now q.now others g.failed d.failed d.grows d.faults agree in
-            let agree1 = Agree-right 0 from upto p.before p.now others g.failed d.failed (omega arith) g.faults agree in
-            let e = ap (option_map (and_then g.sofar)) (line_here config others g.sofar.scene (Some d.effect) line.text v.piece v.text_is (d.is others agree1)) in
-            rw (v.taken_is, num) (g.goes others agree0 ∙ ap (run_lines config others taken number g.sofar) v.first ∙ run-step config others taken number g.sofar (and_then g.sofar d.effect) v.piece (cut gv.rest') verdict e);
-        passes = λ others agree x w passed.
-            let agree0 = Agree-left 0 from upto p.now q.now others g.failed d.failed d.grows d.faults agree in
-            let agree1 = Agree-right 0 from upto p.before p.now others g.failed d.failed (omega arith) g.faults agree in
-            let e = line_here config others g.sofar.scene (Some d.effect) line.text v.piece v.text_is (d.is others agree1) in
-            let p' : Passes config others (taken + length v.piece) (number + 1) (and_then g.sofar d.effect) (cut gv.rest') x w = rw (v.taken_is, num) at passed in
-            let here : Passes config others taken number g.sofar (v.piece ∷ cut gv.rest') x w = inr (d.effect, (e, inr p')) in
-            g.passes others agree0 x w (rw v.first here);
+    comes-here : (others : List ℕ) → Agrees others sofar.made → lines_place config b others g.lines ≡ Some (place_at taken sofar (piece ∷ cut gv.rest'))
+    comes-here others agree = g.comes others agree ∙ ap (λ pieces. Some (place_at taken sofar pieces)) first
+
+    goes-here : (others : List ℕ) → Agrees others sofar.made → lines_run config b others ≡ run_lines config others taken number sofar (piece ∷ cut gv.rest')
+    goes-here others agree = g.goes others agree ∙ ap (run_lines config others taken number sofar) first
+
+    module _ (new : Stage S) (never_fall : (device : ℕ) → faults_at mid.cluster.devices device ≤ faults_at new.cluster.devices device) where
+      numbered-here : (made : List Made) → AreNumbered sofar.scene.count made → AreNumbered 0 (sofar.made ++ made)
+      numbered-here made h = numbered-append 0 sofar.made made g.numbered (subst (λ n. AreNumbered n made) (g.count_is ∙ none-plus (length sofar.made)) h)
+        where
+          none-plus : (n : ℕ) → n ≡ 0 + n
+          none-plus n = omega arith
+
+      rise-here : (made : List Made) → Rise made (faults_at mid.cluster.devices) (faults_at new.cluster.devices) → Rise (sofar.made ++ made) (faults_at old.cluster.devices) (faults_at new.cluster.devices)
+      rise-here made h = rise-append sofar.made made (faults_at old.cluster.devices) (faults_at mid.cluster.devices) (faults_at new.cluster.devices) g.rise h never_fall
+
+      joined-out : (o : List ℕ) (out' : Option (List ℕ)) → out' ≡ Some ((t ++ sofar.text) ++ o) → out' ≡ Some (t ++ (sofar.text ++ o))
+      joined-out o out' e = e ∙ ap Some (append_assoc t sofar.text o)
+
+      -- the line was done, and the next is to come
+      pub more-by : (number' : ℕ) (out' : Option (List ℕ)) (d : HasEffect config sofar.scene mid new (λ failed. effect_of_line config failed sofar.scene line.text)) → number' ≡ number + 1 → d.effect.spent ≡ false → out' ≡ Some ((t ++ sofar.text) ++ d.effect.text) → Going config b taken' number' left' old new t out'
+      more-by number' out' d num not_spent o =
+          let e = d.effect in
+          let does : (others : List ℕ) → Agrees others (sofar.made ++ e.made) → effect_of_line config others sofar.scene (text_of piece) ≡ Some e =
+          λ others agree. effect-here others (Some e) (d.is others (Agrees-right others sofar.made e.made agree)) in
+          record {
+            lines = suc g.lines;
+            rest = gv.rest';
+            sofar = and_then sofar e;
+            left_is = gv.left_is;
+            scene_is = d.scene_is;
+            written_is = joined-out e.text out' o;
+            numbered = numbered-here e.made d.numbered;
+            count_is = d.count_is ∙ ap (λ n. n + length e.made) g.count_is ∙ sym (length-append sofar.made e.made);
+            rise = rise-here e.made d.rise;
+            are_read = read-more b.bytes g.rest gv.rest' piece g.lines g.are_read first g.pieces;
+            pieces = g.pieces ∙ ap (λ ps. g.lines + length ps) first ∙ one-more g.lines (length (cut gv.rest'));
+            goes = λ others agree.
+                goes-here others (Agrees-left others sofar.made e.made agree)
+                ∙ run-step config others taken number sofar piece (cut gv.rest') e fits-piece (does others agree) not_spent
+                ∙ ap (λ n. run_lines config others n (number + 1) (and_then sofar e) (cut gv.rest')) (sym gv.given.taken_is)
+                ∙ ap (λ n. run_lines config others taken' n (and_then sofar e) (cut gv.rest')) (sym num);
+            comes = λ others agree.
+                place-more config others taken sofar piece (cut gv.rest') e (piece-effect config others taken sofar piece (Some e) fits-piece (does others agree)) not_spent g.lines b.taken (at_start config) (cut b.bytes)
+                (comes-here others (Agrees-left others sofar.made e.made agree))
+                ∙ ap (λ n. Some (place_at n (and_then sofar e) (cut gv.rest'))) (sym gv.given.taken_is);
+          }
+        where
+          one-more : (n k : ℕ) → n + suc k ≡ suc n + k
+          one-more n k = omega arith
+
+      abbrev RanNow : Status → Option (List ℕ) → Option (List ℕ) → Type 0
+      RanNow status unread out' = LinesRan config b status unread (faults_at old.cluster.devices) (faults_at new.cluster.devices) (world_of new.cluster) t out'
+
+      -- ---- a line that ended the run
+
+      abbrev does_here : List ℕ → Option Effect
+      does_here failed = effect_of_line config failed sofar.scene line.text
+
+      ran-bad : (n : ℕ) (unread out' : Option (List ℕ)) → n ≡ number + 1 → IsRefused sofar.scene new.cluster does_here → out' ≡ Some (t ++ sofar.text) → RanNow (St.BadLine n) unread out'
+      ran-bad n unread out' num r o =
+          let agree = agrees-faulty 0 sofar.made g.numbered in
+          let F = faulty sofar.made in
+          record {
+            did = did_by sofar;
+            world_is = r.stays;
+            written_is = o;
+            rise = subst (λ ms. Rise ms (faults_at old.cluster.devices) (faults_at new.cluster.devices)) (append-nil sofar.made) (rise-here [] (rise-none _ _ never_fall));
+            how = record {
+              progress = sofar;
+              ends = goes-here F agree ∙ run-bad config F taken number sofar piece (cut gv.rest') fits-piece (effect-here F None (r.none F)) ∙ ap (λ k. ended_by (St.BadLine k) sofar) (sym num);
+              did_is = refl;
+            };
+          }
+
+      more-of : (failed : List ℕ) (e : Effect) → Agrees failed sofar.made → effect_of_line config failed sofar.scene line.text ≡ Some e → LineMore config b failed
+      more-of failed e agree f = record {
+        lines = g.lines;
+        place = place_at taken sofar (piece ∷ cut gv.rest');
+        piece = piece;
+        rest = cut gv.rest';
+        effect = e;
+        comes_to = comes-here failed agree;
+        next_piece = refl;
+        does = piece-effect config failed taken sofar piece (Some e) fits-piece (effect-here failed (Some e) f);
       }
 
-  pub going-more : (taken number taken' number' : ℕ) (left left' : Option (List ℕ)) (p q : Passage) (out out' : Option (List ℕ)) (line : Line) → Going config b taken number left p out → IsNext taken number left (Ok (Some line)) taken' left' → number' ≡ number + 1 → p.now ≤ q.now → BothTold p.scene out (λ scene t. IsLineDone config line scene (onto p q) t out' (Ok tt)) → Going config b taken' number' left' (joined p q) out'
-  going-more taken number taken' number' left left' p q out out' line g next num later done =
-      more taken number taken' number' left left' p q out out' line g
-      (given_of taken number taken' g.rest line left' (rw g.left_is at next)) num later (rw (g.scene_is, g.out_is) at done)
+      module _ (d : HasEffect config sofar.scene mid new does_here) where
+        abbrev e : Effect
+        e = d.effect
 
-  -- what is the run of all at the failed events is the run of the rest
-  run_here : (taken number : ℕ) (left : Option (List ℕ)) (p : Passage) (out : Option (List ℕ)) (g : Going config b taken number left p out) (end : End) → run_lines config g.failed taken number g.sofar (cut g.rest) ≡ end → end.effect ≡ g.sofar → p.state ≡ Some g.sofar.scene.state → (status : Status) → status ≡ end.status → IsExact status (lines_run config b g.failed) p.state b.text out
-  run_here taken number left p out g end e same st status is =
-      let whole : lines_run config b g.failed ≡ end = g.goes g.failed (λ k low high. refl) ∙ e in
-      rw (whole, same) (is, st, g.out_is)
+        abbrev all : List Made
+        all = sofar.made ++ e.made
 
-  abbrev moment_here : (taken number : ℕ) (left : Option (List ℕ)) (p : Passage) (out : Option (List ℕ)) (g : Going config b taken number left p out) → p.state ≡ Some g.sofar.scene.state → IsStopped (PassesFrom config b g.failed) p.state
-  moment_here taken number left p out g st = record {
-    at = g.sofar.scene.state;
-    text = g.sofar.text;
-    passed = g.passes g.failed (λ k low high. refl) g.sofar.scene.state g.sofar.text (passes-here config g.failed taken number g.sofar (cut g.rest));
-    state_is = st;
-  }
+        agrees-all : Agrees (faulty all) all
+        agrees-all = agrees-faulty 0 all (numbered-here e.made d.numbered)
 
-  pub ended-done : (taken number taken' : ℕ) (left left' : Option (List ℕ)) (p : Passage) (out : Option (List ℕ)) → (g : Going config b taken number left p out) → p.state ≡ Some g.sofar.scene.state → IsNext taken number left (Ok None) taken' left' → Ended config b St.Done p out
+        agrees-sofar : Agrees (faulty all) sofar.made
+        agrees-sofar = Agrees-left (faulty all) sofar.made e.made agrees-all
+
+        does-all : does_here (faulty all) ≡ Some e
+        does-all = d.is (faulty all) (Agrees-right (faulty all) sofar.made e.made agrees-all)
+
+        ran-spent : (unread out' : Option (List ℕ)) → e.spent ≡ true → out' ≡ Some ((t ++ sofar.text) ++ e.text) → RanNow St.PortFault unread out'
+        ran-spent unread out' spent o = record {
+          did = did_by (and_then sofar e);
+          world_is = d.scene_is.world;
+          written_is = joined-out e.text out' o;
+          rise = rise-here e.made d.rise;
+          how = record {
+            progress = and_then sofar e;
+            ends = goes-here (faulty all) agrees-sofar ∙ run-spent config (faulty all) taken number sofar piece (cut gv.rest') e fits-piece (effect-here (faulty all) (Some e) does-all) spent;
+            did_is = refl;
+          };
+        }
+
+        ran-unwritten : (k : ℕ) (unread out' : Option (List ℕ)) → out' ≡ Some ((t ++ sofar.text) ++ take k e.text) → RanNow St.WriteFault unread out'
+        unfolding more-of
+        ran-unwritten k unread out' o = record {
+          did = record { made = all; world = e.scene.world; text = sofar.text ++ take k e.text };
+          world_is = d.scene_is.world;
+          written_is = joined-out (take k e.text) out' o;
+          rise = rise-here e.made d.rise;
+          how = record { more = more-of (faulty all) e agrees-sofar does-all; count = k; did_is = refl };
+        }
+
+      ran-between : (unread out' : Option (List ℕ)) → world_of new.cluster ≡ Some sofar.scene.world → out' ≡ Some (t ++ sofar.text) → RanNow St.NoMemory unread out'
+      ran-between unread out' same o = record {
+        did = did_by sofar;
+        world_is = same;
+        written_is = o;
+        rise = subst (λ ms. Rise ms (faults_at old.cluster.devices) (faults_at new.cluster.devices)) (append-nil sofar.made) (rise-here [] (rise-none _ _ never_fall));
+        how = inl (g.lines, record { place = place_at taken sofar (cut g.rest); comes_to = g.comes (faulty sofar.made) (agrees-faulty 0 sofar.made g.numbered); did_is = refl });
+      }
+
+      ran-part : (unread out' : Option (List ℕ)) → PartDone sofar.scene mid.cluster new.cluster does_here → out' ≡ Some (t ++ sofar.text) → RanNow St.NoMemory unread out'
+      unfolding more-of
+      ran-part unread out' p o =
+          let all = sofar.made ++ p.made in
+          let F = faulty all in
+          let agree : Agrees F all = agrees-faulty 0 all (numbered-here p.made p.numbered) in
+          let q = p.is F (Agrees-right F sofar.made p.made agree) in
+          record {
+            did = record { made = all; world = left_after sofar.scene.world p.made; text = sofar.text };
+            world_is = p.world_is;
+            written_is = o;
+            rise = rise-here p.made p.rise;
+            how = inr (record {
+              more = more-of F q.0 (Agrees-left F sofar.made p.made agree) q.1.0;
+              count = length p.made;
+              did_is = ap (λ ms. record { made = sofar.made ++ ms; world = left_after sofar.scene.world ms; text = sofar.text }) (sym q.1.1);
+            });
+          }
+
+      ran-stopped : (unread out' : Option (List ℕ)) → IsStopped sofar.scene mid.cluster new.cluster does_here → out' ≡ Some (t ++ sofar.text) → RanNow St.NoMemory unread out'
+      ran-stopped unread out' (inl same) o = ran-between unread out' same o
+      ran-stopped unread out' (inr p) o = ran-part unread out' p o
+
+      ran-by : (status : Status) (unread out' : Option (List ℕ)) → line.number ≡ number + 1 → line_done_by config line.number sofar.scene mid new (t ++ sofar.text) out' (Err status) does_here → RanNow status unread out'
+      ran-by (St.BadLine n) unread out' num (is, (r, o)) = ran-bad n unread out' (is ∙ num) r o
+      ran-by St.PortFault unread out' num (d, (spent, o)) = ran-spent d unread out' spent o
+      ran-by St.WriteFault unread out' num (d, (k, o)) = ran-unwritten d k unread out' o
+      ran-by St.NoMemory unread out' num (stopped, o) = ran-stopped unread out' stopped o
+      ran-by _ unread out' num h = absurd h
+
+  next-of : (taken' : ℕ) (left' : Option (List ℕ)) (line : Line) → IsNext taken number left (Ok (Some line)) taken' left' → Given taken taken' g.rest line.text left'
+  next-of taken' left' line next = given_of taken number taken' g.rest line left' (subst (λ o. IsNext taken number o (Ok (Some line)) taken' left') g.left_is next)
+
+  -- one line more
+  pub going-more : (taken' number' : ℕ) (left' out' : Option (List ℕ)) (new : Stage S) (line : Line) → IsNext taken number left (Ok (Some line)) taken' left' → number' ≡ number + 1 → ((device : ℕ) → faults_at mid.cluster.devices device ≤ faults_at new.cluster.devices device) → IsLineDone config line mid new out out' (Ok tt) → Going config b taken' number' left' old new t out'
+  going-more taken' number' left' out' new line next num never_fall done =
+      let d = done sofar.scene (t ++ sofar.text) g.scene_is g.written_is in
+      more-by taken' left' line (next-of taken' left' line next) new never_fall number' out' d.0 num d.1.0 d.1.1
+
+  -- the line ended the run
+  pub ran-line : (taken' : ℕ) (left' out' unread : Option (List ℕ)) (new : Stage S) (line : Line) (status : Status) → IsNext taken number left (Ok (Some line)) taken' left' → line.number ≡ number + 1 → ((device : ℕ) → faults_at mid.cluster.devices device ≤ faults_at new.cluster.devices device) → IsLineDone config line mid new out out' (Err status) → LinesRan config b status unread (faults_at old.cluster.devices) (faults_at new.cluster.devices) (world_of new.cluster) t out'
+  ran-line taken' left' out' unread new line status next num never_fall done =
+      ran-by taken' left' line (next-of taken' left' line next) new never_fall status unread out' num (done sofar.scene (t ++ sofar.text) g.scene_is g.written_is)
+
+  -- ---- between lines
+
+  abbrev Ran : Status → Option (List ℕ) → Type 0
+  Ran status unread = LinesRan config b status unread (faults_at old.cluster.devices) (faults_at mid.cluster.devices) (world_of mid.cluster) t out
+
+  ran-so : (status : Status) (unread : Option (List ℕ)) → HowLinesEnded status config b (faulty sofar.made) unread (did_by sofar) → Ran status unread
+  ran-so status unread h = record { did = did_by sofar; world_is = g.scene_is.world; written_is = g.written_is; rise = g.rise; how = h }
+
+  agrees-sofar-made : Agrees (faulty sofar.made) sofar.made
+  agrees-sofar-made = agrees-faulty 0 sofar.made g.numbered
+
+  nothing-unread : (ahead : List ℕ) (unread : Option (List ℕ)) → Keeps (Some g.rest) (prepend_known ahead unread) → IsAtEnd unread → unread ≡ Some []
+  nothing-unread ahead None k e = absurd k
+  nothing-unread ahead (Some xs) k e = ap Some e
+
+  -- the input has ended
+  pub ran-done : (taken' : ℕ) (left' : Option (List ℕ)) (ahead : List ℕ) (unread : Option (List ℕ)) → IsNext taken number left (Ok None) taken' left' → Keeps left (prepend_known ahead unread) → IsAtEnd unread → Ran St.Done unread
   unfolding cut
-  ended-done taken number taken' left left' p out g st next =
-      let nil : g.rest ≡ [] = rw g.left_is at next in
-      record {
-        count = g.sofar.scene.count;
-        failed = g.failed;
-        faults = g.faults;
-        how = run_here taken number left p out g (record { status = St.Done; effect = g.sofar }) (rw nil (run-end config g.failed taken number g.sofar)) refl st St.Done refl;
-      }
+  ran-done taken' left' ahead unread next keeps e =
+      let nil : g.rest ≡ [] = subst (λ o. IsNext taken number o (Ok None) taken' left') g.left_is next in
+      ran-so St.Done unread (
+        record {
+          progress = sofar;
+          ends = g.goes (faulty sofar.made) agrees-sofar-made ∙ ap (λ v. run_lines config (faulty sofar.made) taken number sofar (cut v)) nil ∙ run-end config (faulty sofar.made) taken number sofar;
+          did_is = refl;
+        },
+        nothing-unread ahead unread (subst (λ o. Keeps o (prepend_known ahead unread)) g.left_is keeps) e,
+      )
 
-  refused_status : (taken number taken' : ℕ) (rest : List ℕ) (left' : Option (List ℕ)) (failed : List ℕ) (sofar : Effect) (n : ℕ) → IsNext taken number (Some rest) (Err (E.LineTooLong n)) taken' left' → run_lines config failed taken number sofar (cut rest) ≡ record { status = St.LineTooLong n; effect = sofar }
-  refused_status taken number taken' rest left' failed sofar n (is, (piece, (others, (first, v)))) =
-      ap (run_lines config failed taken number sofar) first ∙ run-long config failed taken number sofar piece others v ∙ ap (λ k. record { status = St.LineTooLong k; effect = sofar }) (sym is)
+  unread-parts : (ahead : List ℕ) (unread : Option (List ℕ)) → Keeps (Some g.rest) (prepend_known ahead unread) → (xs : List ℕ) × ((unread ≡ Some xs) × (g.rest ≡ ahead ++ xs))
+  unread-parts ahead None k = absurd k
+  unread-parts ahead (Some xs) k = (xs, (refl, sym k))
 
-  refused_input : (taken number taken' : ℕ) (rest : List ℕ) (left' : Option (List ℕ)) (failed : List ℕ) (sofar : Effect) → IsNext taken number (Some rest) (Err E.InputTooLong) taken' left' → run_lines config failed taken number sofar (cut rest) ≡ record { status = St.InputTooLong; effect = sofar }
-  refused_input taken number taken' rest left' failed sofar (piece, (others, (first, v))) =
-      ap (run_lines config failed taken number sofar) first ∙ run-large config failed taken number sofar piece others v
+  are-done : AreDone config b (faulty sofar.made) g.lines (did_by sofar)
+  are-done = record { place = place_at taken sofar (cut g.rest); comes_to = g.comes (faulty sofar.made) agrees-sofar-made; did_is = refl }
 
-  pub ended-error : (taken number taken' : ℕ) (left left' : Option (List ℕ)) (p : Passage) (out : Option (List ℕ)) (error : LineError) → (g : Going config b taken number left p out) → p.state ≡ Some g.sofar.scene.state → IsNext taken number left (Err error) taken' left' → Ended config b (status_of_line error) p out
-  ended-error taken number taken' left left' p out E.ReadFault g st next = record {
-    count = g.sofar.scene.count;
-    failed = g.failed;
-    faults = g.faults;
-    how = (moment_here taken number left p out g st, g.out_is);
-  }
-  ended-error taken number taken' left left' p out (E.LineTooLong n) g st next = record {
-    count = g.sofar.scene.count;
-    failed = g.failed;
-    faults = g.faults;
-    how = run_here taken number left p out g (record { status = St.LineTooLong n; effect = g.sofar }) (refused_status taken number taken' g.rest left' g.failed g.sofar n (rw g.left_is at next)) refl st (St.LineTooLong n) refl;
-  }
-  ended-error taken number taken' left left' p out E.InputTooLong g st next = record {
-    count = g.sofar.scene.count;
-    failed = g.failed;
-    faults = g.faults;
-    how = run_here taken number left p out g (record { status = St.InputTooLong; effect = g.sofar }) (refused_input taken number taken' g.rest left' g.failed g.sofar (rw g.left_is at next)) refl st St.InputTooLong refl;
-  }
-  ended-error taken number taken' left left' p out E.NoMemory g st next = record {
-    count = g.sofar.scene.count;
-    failed = g.failed;
-    faults = g.faults;
-    how = (moment_here taken number left p out g st, g.out_is);
+  judged : (v : Verdict) (status : Status) → IsNextJudged taken g.rest v → ((piece : List ℕ) (rest : List (List ℕ)) → verdict_on taken piece ≡ v → run_lines config (faulty sofar.made) taken number sofar (piece ∷ rest) ≡ ended_by status sofar) → IsRunOut config b (faulty sofar.made) status (did_by sofar)
+  judged v status (next_one, (others, (begins, is))) ends = record {
+    progress = sofar;
+    ends = g.goes (faulty sofar.made) agrees-sofar-made ∙ ap (run_lines config (faulty sofar.made) taken number sofar) begins ∙ ends next_one others is;
+    did_is = refl;
   }
 
-  ended-bad : (taken number taken' n : ℕ) (left left' : Option (List ℕ)) (p q : Passage) (out out' : Option (List ℕ)) (line : Line) → (g : Going config b taken number left p out) → Given taken taken' g.rest line.text left' → n ≡ number + 1 → p.now ≤ q.now → ((failed : List ℕ) → effect_of_line config failed g.sofar.scene line.text ≡ None) → q.state ≡ Some g.sofar.scene.state → out' ≡ Some (b.text ++ g.sofar.text) → Ended config b (St.BadLine n) (joined p q) out'
-  ended-bad taken number taken' n left left' p q out out' line g gv num later none h o =
-      let v = gv.given in
-      let verdict = fits_piece taken line.text v.piece v.text_is v.fits_in in
-      let none_here : effect_of_line config g.failed g.sofar.scene (text_of v.piece) ≡ None = line_here config g.failed g.sofar.scene None line.text v.piece v.text_is (none g.failed) in
-      let no_effect : line_after config g.failed g.sofar (text_of v.piece) ≡ None = ap (option_map (and_then g.sofar)) none_here in
-      let e : lines_run config b g.failed ≡ record { status = St.BadLine (number + 1); effect = g.sofar } =
-      g.goes g.failed (λ k low high. refl) ∙ ap (run_lines config g.failed taken number g.sofar) v.first ∙ run-bad config g.failed taken number g.sofar v.piece (cut gv.rest') verdict no_effect in
-      record {
-        count = g.sofar.scene.count;
-        failed = g.failed;
-        faults = AreFaults-later 0 g.sofar.scene.count p.before p.now q.now g.failed later g.faults;
-        how = rw e (ap St.BadLine num, h, o);
-      }
+  error-by : (error : LineError) (taken' : ℕ) (left' : Option (List ℕ)) (ahead : List ℕ) (unread : Option (List ℕ)) → IsNext taken number (Some g.rest) (Err error) taken' left' → (error ≡ E.ReadFault → Keeps (Some g.rest) (prepend_known ahead unread) × (newlines ahead ≡ 0)) → Ran (status_of_line error) unread
+  unfolding are-done
+  error-by E.ReadFault taken' left' ahead unread next interrupted =
+      let k = interrupted refl in
+      let p = unread-parts ahead unread k.0 in
+      ran-so St.ReadFault unread (record {
+        left = p.0;
+        unread_is = p.1.0;
+        lines = g.lines;
+        are_read = read-out b.bytes g.rest ahead p.0 g.lines g.are_read p.1.1 k.1;
+        are_done = are-done;
+      })
+  error-by (E.LineTooLong n) taken' left' ahead unread next interrupted =
+      ran-so (St.LineTooLong n) unread (judged line_too_long (St.LineTooLong n) next.1 (λ piece rest v.
+      run-long config (faulty sofar.made) taken number sofar piece rest v ∙ ap (λ k. ended_by (St.LineTooLong k) sofar) (sym next.0)))
+  error-by E.InputTooLong taken' left' ahead unread next interrupted =
+      ran-so St.InputTooLong unread (judged input_too_long St.InputTooLong next (λ piece rest v. run-large config (faulty sofar.made) taken number sofar piece rest v))
+  error-by E.NoMemory taken' left' ahead unread next interrupted = ran-so St.NoMemory unread (inl (g.lines, are-done))
 
-  ended-write : (taken number taken' : ℕ) (left left' : Option (List ℕ)) (p q : Passage) (out out' : Option (List ℕ)) (line : Line) → (g : Going config b taken number left p out) → Given taken taken' g.rest line.text left' → p.now ≤ q.now → (done : LineDone config line.text g.sofar.scene (onto p q)) → q.state ≡ Some done.effect.effect.scene.state → (k : ℕ) → out' ≡ Some ((b.text ++ g.sofar.text) ++ take k done.out) → Ended config b St.WriteFault (joined p q) out'
-  ended-write taken number taken' left left' p q out out' line g gv later done st k o =
-      let v = gv.given in
-      let d = done.effect in
-      let from = g.sofar.scene.count in
-      let upto = d.effect.scene.count in
-      let failed = g.failed ++ d.failed in
-      let agree0 = Agree-left 0 from upto p.now q.now failed g.failed d.failed d.grows d.faults (λ k low high. refl) in
-      let agree1 = Agree-right 0 from upto p.before p.now failed g.failed d.failed (omega arith) g.faults (λ k low high. refl) in
-      let e = line_here config failed g.sofar.scene (Some d.effect) line.text v.piece v.text_is (d.is failed agree1) in
-      let here : Passes config failed taken number g.sofar (v.piece ∷ cut gv.rest') d.effect.scene.state (g.sofar.text ++ d.effect.text) =
-      inr (d.effect, (e, inr (passes-here config failed (taken + length v.piece) (number + 1) (and_then g.sofar d.effect) (cut gv.rest')))) in
-      record {
-        count = upto;
-        failed = failed;
-        faults = AreFaults-join 0 from upto p.before p.now q.now g.failed d.failed (omega arith) d.grows later g.faults d.faults;
-        how = (
-          record {
-            at = d.effect.scene.state;
-            text = g.sofar.text ++ d.effect.text;
-            passed = g.passes failed agree0 d.effect.scene.state (g.sofar.text ++ d.effect.text) (rw v.first here);
-            state_is = st;
-          },
-          (length g.sofar.text + k, o ∙ ap (λ w. Some ((b.text ++ g.sofar.text) ++ take k w)) d.out_is ∙ ap Some (append_assoc b.text g.sofar.text (take k d.effect.text) ∙ ap (λ w. b.text ++ w) (sym (take-append-add g.sofar.text d.effect.text k)))),
-        );
-      }
-
-  -- some events of the line were made
-  part_passes : (failed : List ℕ) (taken number k : ℕ) (sofar : Effect) (piece : List ℕ) (rest : List (List ℕ)) (state : Option State) → IsAfter (effect_of_line config failed sofar.scene (text_of piece)) sofar.scene.state state k → IsStopped (λ x w. Passes config failed taken number sofar (piece ∷ rest) x w × (w ≡ sofar.text)) state
-  part_passes failed taken number zero sofar piece rest state is = record { at = sofar.scene.state; text = sofar.text; passed = (inl (refl, refl), refl); state_is = is }
-  part_passes failed taken number (suc k) sofar piece rest state (e, (x, (f, s, is))) = record { at = x; text = sofar.text; passed = (inr (e, (f, inl (k, (s, refl)))), refl); state_is = is }
-
-  ended-part : (taken number taken' : ℕ) (left left' : Option (List ℕ)) (p q : Passage) (out out' : Option (List ℕ)) (line : Line) → (g : Going config b taken number left p out) → Given taken taken' g.rest line.text left' → p.now ≤ q.now → PartDone g.sofar.scene.count g.sofar.scene.state q.state p.now q.now (λ failed. effect_of_line config failed g.sofar.scene line.text) → out' ≡ Some (b.text ++ g.sofar.text) → Ended config b St.NoMemory (joined p q) out'
-  ended-part taken number taken' left left' p q out out' line g gv later part o =
-      let v = gv.given in
-      let failed = g.failed ++ part.failed in
-      let from = g.sofar.scene.count in
-      let upto = from + part.made in
-      let agree0 = Agree-left 0 from upto p.now q.now failed g.failed part.failed (omega arith) part.faults (λ k low high. refl) in
-      let agree1 = Agree-right 0 from upto p.before p.now failed g.failed part.failed (omega arith) g.faults (λ k low high. refl) in
-      let after : IsAfter (effect_of_line config failed g.sofar.scene (text_of v.piece)) g.sofar.scene.state q.state part.made =
-      subst (λ x. IsAfter (effect_of_line config failed g.sofar.scene x) g.sofar.scene.state q.state part.made) v.text_is (part.is failed agree1) in
-      let s = part_passes failed taken number part.made g.sofar v.piece (cut gv.rest') q.state after in
-      record {
-        count = upto;
-        failed = failed;
-        faults = AreFaults-join 0 from upto p.before p.now q.now g.failed part.failed (omega arith) (omega arith) later g.faults part.faults;
-        how = (
-          record {
-            at = s.at;
-            text = s.text;
-            passed = g.passes failed agree0 s.at s.text (rw v.first s.passed.0);
-            state_is = s.state_is;
-          },
-          o ∙ ap (λ w. Some (b.text ++ w)) (sym s.passed.1),
-        );
-      }
-
-  by_status : (taken number taken' : ℕ) (left left' : Option (List ℕ)) (p q : Passage) (out out' : Option (List ℕ)) (line : Line) (status : Status) → (g : Going config b taken number left p out) → Given taken taken' g.rest line.text left' → line.number ≡ number + 1 → p.now ≤ q.now → IsLineDone config line g.sofar.scene (onto p q) (b.text ++ g.sofar.text) out' (Err status) → Ended config b status (joined p q) out'
-  by_status taken number taken' left left' p q out out' line (St.BadLine m) g gv num later done =
-      ended-bad taken number taken' m left left' p q out out' line g gv (done.0 ∙ num) later done.1 done.2 done.3
-  by_status taken number taken' left left' p q out out' line St.WriteFault g gv num later (done, (st, (k, o))) =
-      ended-write taken number taken' left left' p q out out' line g gv later done st k o
-  by_status taken number taken' left left' p q out out' line St.NoMemory g gv num later done =
-      ended-part taken number taken' left left' p q out out' line g gv later done.0 done.1
-  by_status taken number taken' left left' p q out out' line _ g gv num later done = absurd done
-
-  pub ended-line : (taken number taken' : ℕ) (left left' : Option (List ℕ)) (p q : Passage) (out out' : Option (List ℕ)) (line : Line) (status : Status) → Going config b taken number left p out → IsNext taken number left (Ok (Some line)) taken' left' → line.number ≡ number + 1 → p.now ≤ q.now → BothTold p.scene out (λ scene t. IsLineDone config line scene (onto p q) t out' (Err status)) → Ended config b status (joined p q) out'
-  ended-line taken number taken' left left' p q out out' line status g next num later done =
-      by_status taken number taken' left left' p q out out' line status g
-      (given_of taken number taken' g.rest line left' (rw g.left_is at next)) num later (rw (g.scene_is, g.out_is) at done)
+  -- the next line can't be read
+  pub ran-error : (error : LineError) (taken' : ℕ) (left' : Option (List ℕ)) (ahead : List ℕ) (unread : Option (List ℕ)) → IsNext taken number left (Err error) taken' left' → (error ≡ E.ReadFault → Keeps left (prepend_known ahead unread) × (newlines ahead ≡ 0)) → Ran (status_of_line error) unread
+  ran-error error taken' left' ahead unread next interrupted =
+      error-by error taken' left' ahead unread (subst (λ o. IsNext taken number o (Err error) taken' left') g.left_is next)
+      (λ is. subst (λ o. Keeps o (prepend_known ahead unread) × (newlines ahead ≡ 0)) g.left_is (interrupted is))

@@ -1,8 +1,12 @@
-pub mod Askable
 pub mod Asked
 pub mod Commands
-pub mod Effects
+pub mod Faults
+pub mod Going
+pub mod Named
 pub mod Runs
+pub mod Saves
 pub mod Scenes
+pub mod Standing
 pub mod Stores
+pub mod Turns
 pub mod Words

@@ -1,95 +1,108 @@
--- What was done line after line, where source, sink and store tell. For private clauses.
-use Rattle.std.specs.Prelude.{◌≡◌, ◌++◌, ℕ, List, [], take, Option, None, Some, Result, Ok, Err, ⊤}
+-- What lines did, one after another, where source, sink and stores tell. For private clauses.
+use Rattle.std.specs.Prelude.{◌≡◌, ◌⊎◌, ◌++◌, ℕ, List, [], ◌∷◌, take, Option, Some}
 use Rattle.keep_spec.specs.Lines.{cut}
 use Rattle.keep_spec.specs.Config.{Configuration}
 use Rattle.keep_spec.specs.declared.status.Status.{Status}
-use Rattle.keep_spec.specs.declared.status.Status.TheVariants.{BadLine, WriteFault, ReadFault, NoMemory, LineTooLong, InputTooLong}
-use Rattle.keep_base.specs.declared.lines.Line.{Line}
-use Rattle.keep_base.specs.declared.lines.LineError.{LineError}
-use Rattle.keep_base.specs.declared.lines.LineError.TheVariants as E
-use Rattle.keep_event.specs.Device.{State}
-use Rattle.keep_history.specs.Effects.{Scene, Effect, effect_of_line}
-use Rattle.keep_history.specs.Faults.{AgreeFrom, AreFaults}
-use Rattle.keep_history.specs.Run.{End, run_lines, Passes, at_start}
-use Rattle.keep_history.specs.Ended.{HowEnded}
-use Rattle.keep_run.specs.Effects.{HasEffect, PartDone}
-use Rattle.keep_run.specs.Scenes.{Passage}
+use Rattle.keep_spec.specs.declared.status.Status.TheVariants.{Done, BadLine, WriteFault, ReadFault, NoMemory, LineTooLong, InputTooLong, PortFault}
+use Rattle.keep_event.specs.World.{World}
+use Rattle.keep_history.specs.Effects.{Made, Effect}
+use Rattle.keep_history.specs.Ended.{Place, place_after, effect_of_piece, left_after, faulty, AreRead}
+use Rattle.keep_history.specs.Run.{Progress, End, ended_by, run_lines, at_start}
+use Rattle.keep_run.specs.Faults.{Rise}
 
--- one line did this
-pub record LineDone (config : Configuration) (text : List ℕ) (scene : Scene) (p : Passage) : Type 0 where
-  pub out : List ℕ
-  pub effect : HasEffect scene.count p.scene p.before p.now [] out (λ failed. effect_of_line config failed scene text)
+-- what lines did: their events, what the devices and the table have after them, and the text that was written
+pub record Did : Type 0 where
+  pub made : List Made
+  pub world : World
+  pub text : List ℕ
 
--- what a line did, by its answer, where so much was written before and this after
-abbrev pub IsLineDone : Configuration → Line → Scene → Passage → List ℕ → Option (List ℕ) → Result (Unit {0}) Status → Type 0
-IsLineDone config line scene p t written (Ok done) =
-    (done : LineDone config line.text scene p) × (written ≡ Some (t ++ done.out))
-IsLineDone config line scene p t written (Err (BadLine n)) =
-    (n ≡ line.number) × ((failed : List ℕ) → effect_of_line config failed scene line.text ≡ None) × (p.state ≡ Some scene.state) × (written ≡ Some t)
-IsLineDone config line scene p t written (Err WriteFault) =
-    (done : LineDone config line.text scene p) × ((p.state ≡ Some done.effect.effect.scene.state) × ((k : ℕ) × (written ≡ Some (t ++ take k done.out))))
-IsLineDone config line scene p t written (Err NoMemory) =
-    PartDone scene.count scene.state p.state p.before p.now (λ failed. effect_of_line config failed scene line.text) × (written ≡ Some t)
-IsLineDone config line scene p t written (Err other) = ⊥
+abbrev pub did_by : Progress → Did
+did_by p = record { made = p.made; world = p.scene.world; text = p.text }
 
-abbrev pub AllTold : {A B C : Type 0} → Option A → Option B → Option C → (A → B → C → Type 0) → Type 0
-AllTold None b c P = ⊤
-AllTold (Some a) None c P = ⊤
-AllTold (Some a) (Some b) None P = ⊤
-AllTold (Some a) (Some b) (Some c) P = P a b c
-
-abbrev pub BothTold : {A B : Type 0} → Option A → Option B → (A → B → Type 0) → Type 0
-BothTold None b P = ⊤
-BothTold (Some a) None P = ⊤
-BothTold (Some a) (Some b) P = P a b
-
--- where lines begin to be done: how many bytes and lines were taken before, the bytes that are left, what the device has, and what was written
+-- where lines begin to be done: how many bytes and lines were taken before, and the bytes that are left
 pub record Beginning : Type 0 where
   pub taken : ℕ
   pub number : ℕ
   pub bytes : List ℕ
-  pub state : State
-  pub text : List ℕ
 
-abbrev pub beginning : ℕ → ℕ → List ℕ → State → List ℕ → Beginning
-beginning taken number bytes s t = record { taken = taken; number = number; bytes = bytes; state = s; text = t }
+abbrev pub beginning : ℕ → ℕ → List ℕ → Beginning
+beginning taken number bytes = record { taken = taken; number = number; bytes = bytes }
 
 -- the run of all lines from a beginning on, where some events fail
 abbrev pub lines_run : Configuration → Beginning → List ℕ → End
-lines_run config b failed = run_lines config failed b.taken b.number (at_start b.state) (cut b.bytes)
+lines_run c b failed = run_lines c failed b.taken b.number (at_start c) (cut b.bytes)
 
-abbrev pub PassesFrom : Configuration → Beginning → List ℕ → State → List ℕ → Type 0
-PassesFrom config b failed x w = Passes config failed b.taken b.number (at_start b.state) (cut b.bytes) x w
+-- the place after so many of the lines, where each of them is done
+abbrev pub lines_place : Configuration → Beginning → List ℕ → ℕ → Option Place
+lines_place c b failed lines = place_after c failed lines b.taken (at_start c) (cut b.bytes)
 
--- the lines so far were done, and the rest is to come
-pub record Going (config : Configuration) (b : Beginning) (taken number : ℕ) (left : Option (List ℕ)) (p : Passage) (written : Option (List ℕ)) : Type 0 where
-  pub rest : List ℕ
-  pub left_is : left ≡ Some rest
-  pub sofar : Effect
-  pub scene_is : p.scene ≡ Some sofar.scene
-  pub out_is : written ≡ Some (b.text ++ sofar.text)
-  pub failed : List ℕ
-  pub faults : AreFaults 0 sofar.scene.count p.before p.now failed
-  pub goes : (others : List ℕ) → AgreeFrom 0 sofar.scene.count others failed → lines_run config b others ≡ run_lines config others taken number sofar (cut rest)
-  pub passes : (others : List ℕ) → AgreeFrom 0 sofar.scene.count others failed → (x : State) (w : List ℕ) → Passes config others taken number sofar (cut rest) x w → PassesFrom config b others x w
+-- the run of the lines ended so by itself
+pub record IsRunOut (c : Configuration) (b : Beginning) (failed : List ℕ) (status : Status) (did : Did) : Type 0 where
+  pub progress : Progress
+  pub ends : lines_run c b failed ≡ ended_by status progress
+  pub did_is : did ≡ did_by progress
 
--- the run of the lines ended with this status, where some events failed
-pub record Ended (config : Configuration) (b : Beginning) (status : Status) (p : Passage) (written : Option (List ℕ)) : Type 0 where
+-- so many lines are done, and nothing else
+pub record AreDone (c : Configuration) (b : Beginning) (failed : List ℕ) (lines : ℕ) (did : Did) : Type 0 where
+  pub place : Place
+  pub comes_to : lines_place c b failed lines ≡ Some place
+  pub did_is : did ≡ did_by place.sofar
+
+-- the line after so many, with what was done before it and what it does
+pub record LineMore (c : Configuration) (b : Beginning) (failed : List ℕ) : Type 0 where
+  pub lines : ℕ
+  pub place : Place
+  pub piece : List ℕ
+  pub rest : List (List ℕ)
+  pub effect : Effect
+  pub comes_to : lines_place c b failed lines ≡ Some place
+  pub next_piece : place.rest ≡ piece ∷ rest
+  pub does : effect_of_piece c failed place.taken place.sofar piece ≡ Some effect
+
+-- a line is done, and the first bytes of its text are written
+pub record IsPartWritten (c : Configuration) (b : Beginning) (failed : List ℕ) (did : Did) : Type 0 where
+  pub more : LineMore c b failed
   pub count : ℕ
-  pub failed : List ℕ
-  pub faults : AreFaults 0 count p.before p.now failed
-  pub how : HowEnded status b.state (lines_run config b failed) (PassesFrom config b failed) p.state b.text written
+  pub did_is : did ≡ record {
+    made = more.place.sofar.made ++ more.effect.made;
+    world = more.effect.scene.world;
+    text = more.place.sofar.text ++ take count more.effect.text;
+  }
 
-abbrev pub status_of_line : LineError → Status
-status_of_line E.ReadFault = ReadFault
-status_of_line (E.LineTooLong n) = LineTooLong n
-status_of_line E.InputTooLong = InputTooLong
-status_of_line E.NoMemory = NoMemory
+-- the first events of a line are made
+pub record IsPartMade (c : Configuration) (b : Beginning) (failed : List ℕ) (did : Did) : Type 0 where
+  pub more : LineMore c b failed
+  pub count : ℕ
+  pub did_is : did ≡ record {
+    made = more.place.sofar.made ++ take count more.effect.made;
+    world = left_after more.place.sofar.scene.world (take count more.effect.made);
+    text = more.place.sofar.text;
+  }
 
--- a line ends a run by BadLine, by a fault of the sink, or where memory was refused
-abbrev pub IsOfLine : Result (Unit {0}) Status → Type 0
-IsOfLine (Ok done) = ⊤
-IsOfLine (Err (BadLine n)) = ⊤
-IsOfLine (Err WriteFault) = ⊤
-IsOfLine (Err NoMemory) = ⊤
-IsOfLine (Err other) = ⊥
+-- the source failed: each line that was read whole is done
+pub record IsReadOut (c : Configuration) (b : Beginning) (failed : List ℕ) (unread : Option (List ℕ)) (did : Did) : Type 0 where
+  pub left : List ℕ
+  pub unread_is : unread ≡ Some left
+  pub lines : ℕ
+  pub are_read : AreRead b.bytes left lines
+  pub are_done : AreDone c b failed lines did
+
+-- each status that lines end with
+abbrev pub HowLinesEnded : Status → Configuration → Beginning → List ℕ → Option (List ℕ) → Did → Type 0
+HowLinesEnded Done c b failed unread did = IsRunOut c b failed Done did × (unread ≡ Some [])
+HowLinesEnded (BadLine n) c b failed unread did = IsRunOut c b failed (BadLine n) did
+HowLinesEnded (LineTooLong n) c b failed unread did = IsRunOut c b failed (LineTooLong n) did
+HowLinesEnded InputTooLong c b failed unread did = IsRunOut c b failed InputTooLong did
+HowLinesEnded PortFault c b failed unread did = IsRunOut c b failed PortFault did
+HowLinesEnded ReadFault c b failed unread did = IsReadOut c b failed unread did
+HowLinesEnded WriteFault c b failed unread did = IsPartWritten c b failed did
+HowLinesEnded NoMemory c b failed unread did = ((lines : ℕ) × AreDone c b failed lines did) ⊎ IsPartMade c b failed did
+HowLinesEnded other c b failed unread did = ⊥
+
+-- The lines from a beginning on ended with a status: what they did, where the events that failed are just those that were answered StoreFault. `text` was written before, `unread` is what the source has left.
+pub record LinesRan (c : Configuration) (b : Beginning) (status : Status) (unread : Option (List ℕ)) (before now : ℕ → ℕ) (world : Option World) (text : List ℕ) (written : Option (List ℕ)) : Type 0 where
+  pub did : Did
+  pub world_is : world ≡ Some did.world
+  pub written_is : written ≡ Some (text ++ did.text)
+  pub rise : Rise did.made before now
+  pub how : HowLinesEnded status c b (faulty did.made) unread did

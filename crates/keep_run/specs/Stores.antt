@@ -1,62 +1,186 @@
 -- What a run finds in its stores, and what it leaves there.
-use Rattle.std.specs.Prelude.{◌≡◌, ℕ, List, [], ◌∷◌, length, Option, None, Some, IfSome, ⊤, Result, Err}
+use Rattle.std.specs.Prelude.{◌≡◌, ◌≤◌, ◌<◌, ◌++◌, ⊤, ℕ, zero, suc, List, [], ◌∷◌, length, map, slice_index_or, Option, Some, IfSome, true, false, Result, Ok, Err}
+use Rattle.std.specs.Option.{option_map_or}
+use Rattle.keep_spec.specs.Causes.{Rose}
 use Rattle.keep_spec.specs.Config.{Configuration}
-use Rattle.keep_spec.specs.Lines.{cut}
+use Rattle.keep_spec.specs.Lines.{cut, fits, text_of}
 use Rattle.keep_spec.specs.declared.config.Field.{Field}
 use Rattle.keep_spec.specs.declared.status.Status.{Status}
-use Rattle.keep_spec.specs.declared.status.Status.TheVariants.{BadConfig, NoMemory}
-use Rattle.keep_event.specs.Device.{State, initial}
+use Rattle.keep_spec.specs.declared.status.Status.TheVariants.{BadConfig, NotEmpty, StoreFault, NoMemory}
 use Rattle.keep_event.specs.declared.names.Name.{Name}
 use Rattle.keep_event.specs.declared.names.Stored.{Stored}
-use Rattle.keep_history.specs.Faults.{AreFaults}
-use Rattle.keep_history.specs.Run.{run_opened, Passes, at_start}
-use Rattle.keep_history.specs.Ended.{HowEnded, Ran}
-use Rattle.keep_run.specs.Runs.{Beginning}
+use Rattle.keep_event.specs.declared.device.DeviceRules.{DeviceRules}
+use Rattle.keep_history.specs.Ended.{Begun, Ran, RisesBy, Work, begun_of, faulty}
+use Rattle.keep_history.specs.Run.{Kept, config_for, is_empty, verdict_on}
+use Rattle.keep_history.specs.Whole.{EndsWhole, IsScript}
+use Rattle.keep_volume.specs.Calls.{VolumeView}
 
--- the device that a store makes, where it tells its names and its note: its lists are empty
-abbrev pub told_state : Option (List (Name × Stored)) → Option ℕ → Option State
-told_state None noted = None
-told_state (Some es) None = None
-told_state (Some es) (Some round) = Some (record { held = es; round = round; trash = []; pull = [] })
+-- ---- what a store tells
 
--- the device that the first of the stores makes
-abbrev pub first_state : {S : Type 0} → (S → Option (List (Name × Stored))) → (S → Option ℕ) → List S → Option State
-first_state held noted [] = Some initial
-first_state held noted (x ∷ xs) = told_state (held x) (noted x)
+-- what it holds and its note, where it tells them, and its count of failed calls
+pub record Told : Type 0 where
+  pub held : Option (List (Name × Stored))
+  pub noted : Option ℕ
+  pub faults : ℕ
 
-abbrev pub first_faults : {S : Type 0} → (S → ℕ) → List S → ℕ
-first_faults faults [] = 0
-first_faults faults (x ∷ xs) = faults x
+abbrev pub told_of : {S : Type 0} → (S → Option (List (Name × Stored))) → (S → Option ℕ) → (S → ℕ) → S → Told
+told_of held noted faults s = record { held = held s; noted = noted s; faults = faults s }
 
--- a store holds what a device has
-pub record Keeps (held : Option (List (Name × Stored))) (noted : Option ℕ) (s : State) : Type 0 where
-  pub held_is : held ≡ Some s.held
-  pub round_is : IfSome noted (λ n. n ≡ s.round)
+-- what each of some stores tells
+abbrev pub told_by : {S : Type 0} → (S → Option (List (Name × Stored))) → (S → Option ℕ) → (S → ℕ) → List S → List Told
+told_by held noted faults stores = map (told_of held noted faults) stores
 
--- the first of the stores does
-abbrev pub FirstKeeps : {S : Type 0} → (S → Option (List (Name × Stored))) → (S → Option ℕ) → List S → State → Type 0
-FirstKeeps held noted [] s = ⊤
-FirstKeeps held noted (x ∷ xs) s = Keeps (held x) (noted x) s
+-- the stores' counts of failed calls
+abbrev pub counts : List Told → List ℕ
+counts stores = map (λ s. s.faults) stores
 
--- the run of the lines after the configuration over a store, which made this device: how it ended, and what it left
-pub record StoreRan (config : Configuration) (b : Beginning) (status : Status) (held : Option (List (Name × Stored))) (noted : Option ℕ) (before now : ℕ) (out : Option (List ℕ)) : Type 0 where
-  pub left : State
-  pub keeps : Keeps held noted left
-  pub count : ℕ
-  pub failed : List ℕ
-  pub faults : AreFaults 0 count before now failed
-  pub how : HowEnded status b.state (run_opened config failed b.taken b.state (cut b.bytes)) (Passes config failed b.taken 1 (at_start b.state) (cut b.bytes)) (Some left) b.text out
+abbrev pub count_of : ℕ → List Told → ℕ
+count_of device stores = slice_index_or (counts stores) device 0
 
--- the run of the whole input over the stores: how it ended, and what it left in the first of them
-pub record StoresRan {S : Type 0} (held : S → Option (List (Name × Stored))) (noted : S → Option ℕ) (faults : S → ℕ) (old new : List S) (bytes : List ℕ) (start : State) (t : List ℕ) (status : Status) (out : Option (List ℕ)) : Type 0 where
-  pub left : State
-  pub keeps : FirstKeeps held noted new left
-  pub ran : Ran (length old) start bytes t status (Some left) (first_faults faults old) (first_faults faults new) out
+-- a store tells that it keeps this
+pub record Tells (s : Told) (k : Kept) : Type 0 where
+  pub held : s.held ≡ Some k.held
+  pub noted : s.noted ≡ Some k.round
 
--- what ran over the first of the stores
-abbrev pub FirstRan : {S : Type 0} → (S → Option (List (Name × Stored))) → (S → Option ℕ) → (S → ℕ) → Configuration → Beginning → List S → List S → Status → Option (List ℕ) → Type 0
-FirstRan held noted faults config b old [] status out = ⊥
-FirstRan held noted faults config b old (x ∷ xs) status out = StoreRan config b status (held x) (noted x) (first_faults faults old) (faults x) out
+-- a store keeps this
+pub record Keeps (s : Told) (k : Kept) : Type 0 where
+  pub held : s.held ≡ Some k.held
+  pub noted : IfSome s.noted (λ n. n ≡ k.round)
+
+-- the first stores tell that they keep these, one for each; there are as many of these as stores
+abbrev pub FirstTell : ℕ → List Told → List Kept → Type 0
+FirstTell zero ss ks = length ss ≡ length ks
+FirstTell (suc n) [] [] = ⊤
+FirstTell (suc n) (s ∷ ss) (k ∷ ks) = Tells s k × FirstTell n ss ks
+FirstTell (suc n) _ _ = ⊥
+
+-- the first stores keep these, one for each; there are as many of these as stores
+abbrev pub FirstKeep : ℕ → List Told → List Kept → Type 0
+FirstKeep zero ss ks = length ss ≡ length ks
+FirstKeep (suc n) [] [] = ⊤
+FirstKeep (suc n) (s ∷ ss) (k ∷ ks) = Keeps s k × FirstKeep n ss ks
+FirstKeep (suc n) _ _ = ⊥
+
+-- ---- pairs
+
+-- the members of two lists of one length, pair by pair
+abbrev pub AllPairs : {A B : Type 0} → (A → B → Type 0) → List A → List B → Type 0
+AllPairs R [] [] = ⊤
+AllPairs R (x ∷ xs) (y ∷ ys) = R x y × AllPairs R xs ys
+AllPairs R _ _ = ⊥
+
+-- ---- stores that are opened, and given back. For private clauses.
+
+-- a store that tells holds nothing, or something
+abbrev pub IsBare : Told → Type 0
+IsBare s = (k : Kept) → Tells s k → is_empty k ≡ true
+
+abbrev pub IsFilled : Told → Type 0
+IsFilled s = (k : Kept) → Tells s k → is_empty k ≡ false
+
+-- the store keeps what it kept, and its count did not fall
+pub record IsSame (old new : Told) : Type 0 where
+  pub keeps : (k : Kept) → Tells old k → Keeps new k
+  pub never_falls : RisesBy 0 old.faults new.faults
+
+-- an empty device was opened over the store
+pub record IsOver (s : Told) (d : VolumeView) : Type 0 where
+  pub held : d.held ≡ s.held
+  pub bare : IsBare s
+  pub round : d.round ≡ 0
+  pub trash : d.trash ≡ []
+  pub pull : d.pull ≡ []
+  pub never_falls : s.faults ≤ d.faults
+
+-- the store of a device was given back
+pub record IsGiven (d : VolumeView) (s : Told) : Type 0 where
+  pub held : s.held ≡ d.held
+  pub noted : IfSome s.noted (λ n. n ≡ d.round)
+  pub faults : s.faults ≡ d.faults
+
+-- the first of some stores are bare
+abbrev pub AreBare : ℕ → List Told → Type 0
+AreBare zero ss = ⊤
+AreBare (suc n) [] = ⊤
+AreBare (suc n) (s ∷ ss) = IsBare s × AreBare n ss
+
+-- the store of a number, if there is one, is filled
+abbrev pub IsFilledAt : ℕ → List Told → Type 0
+IsFilledAt n [] = ⊥
+IsFilledAt zero (s ∷ ss) = IsFilled s
+IsFilledAt (suc n) (s ∷ ss) = IsFilledAt n ss
+
+-- the device of a number was not opened over its store, with a status
+abbrev pub IsRefused : ℕ → Status → Told → Told → Type 0
+IsRefused device (StoreFault d) old new = (d ≡ device) × Rose old.faults new.faults
+IsRefused device (NotEmpty d) old new = (d ≡ device) × IsFilled old
+IsRefused device NoMemory old new = ⊤
+IsRefused device other old new = ⊥
+
+-- of so many devices one was not opened, and those before it are empty
+abbrev pub AreRefused : ℕ → Status → List Told → List Told → Type 0
+AreRefused n (StoreFault d) old new = (d < n) × (AreBare d old × Rose (count_of d old) (count_of d new))
+AreRefused n (NotEmpty d) old new = (d < n) × (AreBare d old × IsFilledAt d old)
+AreRefused n NoMemory old new = ⊤
+AreRefused n other old new = ⊥
+
+-- empty devices were opened over the first of some stores, and the others are left
+pub record AreOpened {S : Type 0} (told : S → Told) (n : ℕ) (old left : List S) (ds : List VolumeView) : Type 0 where
+  pub first : List S
+  pub parts : old ≡ first ++ left
+  pub many : length first ≡ n
+  pub over : AllPairs IsOver (map told first) ds
+
+-- the stores of devices were put before others
+pub record AreGiven {S : Type 0} (told : S → Told) (ds : List VolumeView) (old new : List S) : Type 0 where
+  pub first : List S
+  pub parts : new ≡ first ++ old
+  pub given : AllPairs IsGiven ds (map told first)
+
+-- a device was opened over the first of the stores
+pub record IsNextOpened {S : Type 0} (told : S → Told) (rules : DeviceRules) (old left : List S) (before after : List VolumeView) : Type 0 where
+  pub store : S
+  pub device : VolumeView
+  pub first : old ≡ store ∷ left
+  pub last : after ≡ before ++ device ∷ []
+  pub over : IsOver (told store) device
+  pub rules_are : device.rules ≡ rules
+
+-- no device was opened over the first of the stores, which was put back
+pub record IsNextRefused {S : Type 0} (told : S → Told) (device : ℕ) (status : Status) (old new : List S) : Type 0 where
+  pub store : S
+  pub again : S
+  pub rest : List S
+  pub first : old ≡ store ∷ rest
+  pub back : new ≡ again ∷ rest
+  pub same : IsSame (told store) (told again)
+  pub refused : IsRefused device status (told store) (told again)
+
+-- ---- the run of a whole input
+
+-- how many devices the configuration of an input has, where its first line is one for so many stores
+abbrev pub devices_in : ℕ → List ℕ → ℕ
+devices_in stores bytes = option_map_or (λ (b : Begun). length b.config.devices) (begun_of stores (cut bytes)) 0
+
+-- A run of an input over stores that kept this: what it did, what the stores of the devices keep then, what was written after `text`, and how it ended.
+pub record StoresRan (old new : List Told) (bytes text : List ℕ) (starts : List Kept) (status : Status) (unread : Option (List ℕ)) (written : Option (List ℕ)) : Type 0 where
+  pub work : Work
+  pub keep : FirstKeep (devices_in (length old) bytes) new work.left
+  pub written_is : written ≡ Some (text ++ work.text)
+  pub ran : Ran starts bytes status unread (counts old) (counts new) work
+
+-- where all lines are script lines, with the events that failed, the run is done, or memory was wanted, or the source, the sink or a store at opening failed
+pub record RanWhole (old new : List Told) (bytes text : List ℕ) (starts : List Kept) (status : Status) (unread : Option (List ℕ)) (written : Option (List ℕ)) : Type 0 where
+  pub ran : StoresRan old new bytes text starts status unread written
+  pub whole : IsScript (faulty ran.work.made) starts bytes → EndsWhole status
+
+-- the first line of an input is a configuration for so many stores, and these bytes come after it. For private clauses.
+pub record HasBegun (stores : ℕ) (bytes rest : List ℕ) (c : Configuration) (taken : ℕ) : Type 0 where
+  pub piece : List ℕ
+  pub first : cut bytes ≡ piece ∷ cut rest
+  pub short : verdict_on 0 piece ≡ fits
+  pub config_is : config_for stores (text_of piece) ≡ Ok c
+  pub taken_is : taken ≡ length piece
 
 -- a first line that is no configuration, or for which memory was refused
 abbrev pub IsConfigRefusal : Status → Result Configuration Field → Type 0

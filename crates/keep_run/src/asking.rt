@@ -1,272 +1,107 @@
-// The queries of a task to the one device, until the task ends.
-ghost use Rattle.std.specs.Prelude.{◌≡◌, ◌≤◌, IfOk, OnErr, true, false};
-ghost use Rattle.keep_spec.specs.Times.{IsReading};
-ghost use Rattle.keep_history.specs.Effects.{rules_of};
-ghost use Rattle.keep_history.specs.Tasks.{compare_end};
-ghost use Rattle.keep_run.specs.Askable.{IsOne, IsAskable};
-ghost use Rattle.keep_run.specs.Asked.{IsFinished, IsPartFinished, write_outcome, fetch_outcome, touch_outcome, untrash_outcome, single_outcome, single_query, device_of, is_single, is_table, turn};
+// The queries of a task to the cluster, one after another.
+ghost use Rattle.std.specs.Prelude.{◌≡◌, ◌++◌, None, IfOk, OnOk, OnErr, length};
+ghost use Rattle.keep_event.specs.Port.{NoneFalls};
+ghost use Rattle.keep_cluster.specs.Cluster.{faults_at};
+ghost use Rattle.keep_run.specs.Asked.{DoesTurns, StopsTurns, device_of, line_at, outcome_of};
+ghost use Rattle.keep_run.specs.Standing.{IsAskable};
 
-use keep_config::Config;
-use keep_event::{Block, DeviceAnswer, DeviceQuery};
-use keep_history::{Outcome, Task};
-use keep_script::push_event_line;
-use keep_spec::{Bytes, Digest, Items, NoMemory, TokenId};
+use keep_cluster::Cluster;
+use keep_event::{Answer, PortError, Query};
+use keep_history::Outcome;
+use keep_script::{push_event_line, push_table_event_line};
+use keep_spec::NoMemory;
 use keep_store::Store;
-use keep_tasks::{signed_locator, touched_locator};
-use keep_volume::Volume;
-use std::alloc::Global;
+use keep_tasks::{Running, Step, Steps};
 
-// How an answer to a comparison ends a put, if it does.
-fn compare_end(
-    alloc: Global,
-    config: &Config,
-    token: &Bytes,
-    block: &Block,
-    answer: &DeviceAnswer,
-) -> Result<Option<Outcome>, NoMemory>
-    ensures { IfOk result (λ o. o ≡ compare_end config.now token.now block.now answer.now) }
-{
-    match answer {
-        DeviceAnswer::Touched { mtime } => {
-            let locator = signed_locator(alloc, config, token.as_slice(), block, *mtime)?;
-            Ok(Some(Outcome::Stored { locator }))
-        }
-        DeviceAnswer::Collision => Ok(Some(Outcome::Collision)),
-        _ => Ok(None),
-    }
+/// A task that has not ended, and who asks for it: the number of its opening among all openings, from 0.
+#[derive(Drop)]
+pub(crate) struct Open {
+    pub(crate) task: Running,
+    pub(crate) actor: u32,
 }
 
-// How an answer to a write ends a put.
-fn write_outcome(
-    alloc: Global,
-    config: &Config,
-    token: &Bytes,
-    block: &Block,
-    answer: &DeviceAnswer,
-) -> Result<Outcome, NoMemory>
-    ensures { IfOk result (λ o. o ≡ write_outcome config.now token.now block.now answer.now) }
-{
-    match answer {
-        DeviceAnswer::Written { mtime } => {
-            let locator = signed_locator(alloc, config, token.as_slice(), block, *mtime)?;
-            Ok(Outcome::Stored { locator })
-        }
-        DeviceAnswer::Collision => Ok(Outcome::Collision),
-        DeviceAnswer::StoreFault => Ok(Outcome::StoreFault),
-        _ => Ok(Outcome::NoRoom),
-    }
-}
-
-// How an answer to a fetch ends a get.
-fn fetch_outcome(answer: DeviceAnswer) -> Outcome
-    ensures { result ≡ fetch_outcome answer }
-{
-    match answer {
-        DeviceAnswer::Block { bytes } => Outcome::Bytes { bytes },
-        DeviceAnswer::Corrupt { found } => Outcome::Corrupt { found },
-        DeviceAnswer::StoreFault => Outcome::StoreFault,
-        _ => Outcome::NotFound,
-    }
-}
-
-// How an answer ends a touch.
-fn touch_outcome(
-    alloc: Global,
-    config: &Config,
-    token: &Bytes,
-    digest: &Digest,
-    stripped: &Bytes,
-    answer: &DeviceAnswer,
-) -> Result<Outcome, NoMemory>
-    ensures { IfOk result (λ o. o ≡ touch_outcome config.now token.now digest.now stripped.now answer.now) }
-{
-    match answer {
-        DeviceAnswer::Touched { mtime } => {
-            let locator = touched_locator(alloc, config, token, digest, stripped, *mtime)?;
-            Ok(Outcome::Touched { locator })
-        }
-        DeviceAnswer::StoreFault => Ok(Outcome::StoreFault),
-        _ => Ok(Outcome::NotFound),
-    }
-}
-
-// How an answer ends an untrash.
-fn untrash_outcome(answer: &DeviceAnswer) -> Outcome
-    ensures { result ≡ untrash_outcome answer.now }
-{
-    match answer {
-        DeviceAnswer::Back { mtime: _ } => Outcome::Untrashed { copies: 1 },
-        DeviceAnswer::StoreFault => Outcome::StoreFault,
-        DeviceAnswer::Present { mtime: _ } => Outcome::Untrashed { copies: 0 },
-        _ => Outcome::NotFound,
-    }
-}
-
-// How the answer to a task of one query ends it.
-fn single_outcome(
-    alloc: Global,
-    config: &Config,
-    task: &Task,
-    answer: DeviceAnswer,
-) -> Result<Outcome, NoMemory>
-    ensures { IfOk result (λ o. o ≡ single_outcome config.now task.now answer) }
-{
-    match task {
-        Task::Put { .. } => Ok(Outcome::NotFound),
-        Task::Get {
-            devices: _,
-            digest: _,
-        } => Ok(fetch_outcome(answer)),
-        Task::Touch {
-            devices: _,
-            token,
-            id: _,
-            digest,
-            stripped,
-        } => touch_outcome(alloc, config, token, digest, stripped, &answer),
-        Task::Untrash {
-            devices: _,
-            digest: _,
-        } => Ok(untrash_outcome(&answer)),
-        Task::Restart { device: _ } => Ok(Outcome::Restarted),
-        Task::Table { .. } => Ok(Outcome::NotFound),
-    }
-}
-
-// The query of a task that asks a device once. None for a put and for a table's task.
-fn single_query(task: &Task) -> Option<DeviceQuery>
-    ensures { result ≡ single_query task.now }
-{
-    match task {
-        Task::Put { .. } => None,
-        Task::Get { devices: _, digest } => Some(DeviceQuery::Fetch { digest: *digest }),
-        Task::Touch {
-            devices: _,
-            token: _,
-            id,
-            digest,
-            stripped: _,
-        } => Some(DeviceQuery::Touch {
-            digest: *digest,
-            token: Some(*id),
-        }),
-        Task::Untrash { devices: _, digest } => Some(DeviceQuery::Untrash { digest: *digest }),
-        Task::Restart { device: _ } => Some(DeviceQuery::Restart),
-        Task::Table { .. } => None,
-    }
-}
-
-// The device that a task asks.
-fn device_of(task: &Task) -> u32
-    ensures { result ≡ device_of task.now }
-{
-    match task {
-        Task::Restart { device } => *device,
-        _ => 0,
-    }
-}
-
-/// How a task ended, and how many events it made.
+/// How the turns of a task stopped.
 #[derive(Drop, Debug)]
-pub(crate) struct Finished {
-    pub(crate) outcome: Outcome,
-    pub(crate) events: u64,
+pub(crate) enum Turned {
+    /// The task ended.
+    Ended { outcome: Outcome },
+    /// The turns are over, and the task asks on.
+    Asks,
+    /// There was no event left for it.
+    Spent,
 }
 
-// Compares the block with what the device has, and writes it where that doesn't end the put.
-fn finish_put<S: Store>(
-    alloc: Global,
-    config: &Config,
-    volume: &mut Volume<S>,
-    reading: u64,
-    name: &[u8],
-    devices: &Items<u32>,
-    token: &Bytes,
-    id: TokenId,
-    block: &Block,
-    out: &mut Vec<u8>,
-) -> Result<Finished, NoMemory>
-    requires rules { volume.old.rules ≡ rules_of config.now }
-    requires one { IsOne devices.now }
-    ensures done { IfOk result (λ f. IsFinished (turn config.now reading name.now (Task.Put devices.now token.now id block.now)) volume.old volume.new out.old.items out.new.items f) }
-    ensures stopped { OnErr result (IsPartFinished (turn config.now reading name.now (Task.Put devices.now token.now id block.now)) volume.old volume.new) }
-    ensures two_events { IfOk result (λ f. f.events ≤ 2) }
-    ensures never_falls { volume.old.faults ≤ volume.new.faults }
-    ensures rules { volume.new.rules ≡ volume.old.rules }
+// The device that the line of a query's event names; 0 for the table.
+fn device_of(query: &Query) -> u32
+    ensures { result ≡ device_of query.now }
 {
-    let first = volume.compare_touch(reading, block, Some(id))?;
-    push_event_line(out, name, 0, &first)?;
-    if let Some(outcome) = compare_end(alloc, config, token, block, &first)? {
-        return Ok(Finished { outcome, events: 1 });
+    match query {
+        Query::Device(device, _) => *device,
+        Query::Table(_) => 0,
     }
-    let second = volume.write(reading, block, Some(id))?;
-    push_event_line(out, name, 0, &second)?;
-    let outcome = write_outcome(alloc, config, token, block, &second)?;
-    Ok(Finished { outcome, events: 2 })
 }
 
-// Asks the one query of a task.
-fn finish_single<S: Store>(
-    alloc: Global,
-    config: &Config,
-    volume: &mut Volume<S>,
-    reading: u64,
-    name: &[u8],
-    task: &Task,
-    out: &mut Vec<u8>,
-) -> Result<Finished, NoMemory>
-    requires rules { volume.old.rules ≡ rules_of config.now }
-    requires reading { IsReading reading }
-    requires single { is_single task.now ≡ true }
-    requires one { IsAskable task.now }
-    ensures done { IfOk result (λ f. IsFinished (turn config.now reading name.now task.now) volume.old volume.new out.old.items out.new.items f) }
-    ensures stopped { OnErr result (IsPartFinished (turn config.now reading name.now task.now) volume.old volume.new) }
-    ensures two_events { IfOk result (λ f. f.events ≤ 2) }
-    ensures never_falls { volume.old.faults ≤ volume.new.faults }
-    ensures rules { volume.new.rules ≡ volume.old.rules }
+// Appends the line of an event.
+fn push_line(out: &mut Vec<u8>, name: &[u8], device: u32, answer: &Answer) -> Result<(), NoMemory>
+    ensures { OnOk result (out.new.items ≡ out.old.items ++ line_at name.now device answer.now) }
 {
-    let Some(query) = single_query(task) else {
-        unreachable!()
+    match answer {
+        Answer::Device(answer) => push_event_line(out, name, device, answer),
+        Answer::Table(answer) => push_table_event_line(out, name, answer),
+    }
+}
+
+// Asks the next query of a task, and appends the line of its event.
+fn ask_once<S: Store>(
+    cluster: &mut Cluster<'_, S>,
+    open_task: &mut Open,
+    name: &[u8],
+    out: &mut Vec<u8>,
+) -> Result<Turned, NoMemory>
+    requires askable { IsAskable (length cluster.old.config.devices) open_task.old }
+    ensures done { IfOk result (λ t. DoesTurns 1 cluster.old cluster.new open_task.old open_task.new name.now out.old.items out.new.items t) }
+    ensures stopped { OnErr result (StopsTurns 1 cluster.old cluster.new open_task.old) }
+    ensures askable { IfOk result (λ t. outcome_of t ≡ None → IsAskable (length cluster.old.config.devices) open_task.new) }
+    ensures devices { length cluster.new.config.devices ≡ length cluster.old.config.devices }
+    ensures reading { cluster.new.reading ≡ cluster.old.reading }
+    ensures never_fall { NoneFalls (faults_at cluster.old.devices) (faults_at cluster.new.devices) }
+{
+    let device = device_of(open_task.task.query());
+    let Step { reply, end } = match open_task.task.step(open_task.actor, cluster) {
+        Ok(step) => step,
+        Err(PortError::Failed) => unreachable!(),
+        Err(PortError::Spent { drawn: _ }) => return Ok(Turned::Spent),
+        Err(PortError::NoMemory) => return Err(NoMemory),
     };
-    let answer = volume.step(reading, &query)?;
-    push_event_line(out, name, device_of(task), &answer)?;
-    let outcome = single_outcome(alloc, config, task, answer)?;
-    Ok(Finished { outcome, events: 1 })
+    push_line(out, name, device, &reply.answer)?;
+    match end {
+        Some(outcome) => Ok(Turned::Ended { outcome }),
+        None => Ok(Turned::Asks),
+    }
 }
 
-/// Asks the device until a task other than the table's ends, and appends a line for each answer. After `NoMemory` the first of the queries were asked.
-pub(crate) fn finish<S: Store>(
-    alloc: Global,
-    config: &Config,
-    volume: &mut Volume<S>,
-    reading: u64,
+/// Asks a task up to so many times at the reading of the cluster, or until it ends, and appends a line for each event. After `NoMemory` the first of the
+/// events were made.
+pub(crate) fn ask_turns<S: Store>(
+    cluster: &mut Cluster<'_, S>,
+    turns: u32,
+    open_task: &mut Open,
     name: &[u8],
-    task: &Task,
     out: &mut Vec<u8>,
-) -> Result<Finished, NoMemory>
-    requires rules { volume.old.rules ≡ rules_of config.now }
-    requires reading { IsReading reading }
-    requires device { is_table task.now ≡ false }
-    requires one { IsAskable task.now }
-    ensures done { IfOk result (λ f. IsFinished (turn config.now reading name.now task.now) volume.old volume.new out.old.items out.new.items f) }
-    ensures stopped { OnErr result (IsPartFinished (turn config.now reading name.now task.now) volume.old volume.new) }
-    ensures two_events { IfOk result (λ f. f.events ≤ 2) }
-    ensures never_falls { volume.old.faults ≤ volume.new.faults }
-    ensures rules { volume.new.rules ≡ volume.old.rules }
+) -> Result<Turned, NoMemory>
+    requires askable { IsAskable (length cluster.old.config.devices) open_task.old }
+    ensures done { IfOk result (λ t. DoesTurns turns cluster.old cluster.new open_task.old open_task.new name.now out.old.items out.new.items t) }
+    ensures stopped { OnErr result (StopsTurns turns cluster.old cluster.new open_task.old) }
+    ensures askable { IfOk result (λ t. outcome_of t ≡ None → IsAskable (length cluster.old.config.devices) open_task.new) }
+    ensures devices { length cluster.new.config.devices ≡ length cluster.old.config.devices }
+    ensures never_fall { NoneFalls (faults_at cluster.old.devices) (faults_at cluster.new.devices) }
 {
-    match task {
-        Task::Put {
-            devices,
-            token,
-            id,
-            block,
-        } => finish_put(
-            alloc, config, volume, reading, name, devices, token, *id, block, out,
-        ),
-        Task::Get { .. } => finish_single(alloc, config, volume, reading, name, task, out),
-        Task::Touch { .. } => finish_single(alloc, config, volume, reading, name, task, out),
-        Task::Untrash { .. } => finish_single(alloc, config, volume, reading, name, task, out),
-        Task::Restart { .. } => finish_single(alloc, config, volume, reading, name, task, out),
-        Task::Table { .. } => unreachable!(),
+    for turn in 0..turns {
+        match ask_once(cluster, open_task, name, out)? {
+            Turned::Asks => {}
+            Turned::Ended { outcome } => return Ok(Turned::Ended { outcome }),
+            Turned::Spent => return Ok(Turned::Spent),
+        }
     }
+    Ok(Turned::Asks)
 }

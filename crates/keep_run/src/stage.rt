@@ -1,36 +1,54 @@
 // What a command does to the stage of a run.
-ghost use Rattle.std.specs.Prelude.{◌≡◌, ◌≤◌, ◌+◌, Ok, true, false, OnOk, OnErr, IfOk, length};
+ghost use Rattle.std.specs.Prelude.{◌≡◌, ◌≤◌, ◌<◌, ◌+◌, ◌++◌, ◌^◌, None, OnOk, OnErr, IfOk, length};
 ghost use Rattle.keep_spec.specs.Times.{IsReading};
-ghost use Rattle.keep_history.specs.Effects.{state_after};
-ghost use Rattle.keep_history.specs.Names.{state_of_name, with_name};
+ghost use Rattle.keep_event.specs.Port.{NoneFalls};
+ghost use Rattle.keep_cluster.specs.Cluster.{faults_at};
+ghost use Rattle.keep_history.specs.Effects.{state_after, line_of_end};
+ghost use Rattle.keep_history.specs.Names.{at_name, with_name};
 ghost use Rattle.keep_history.specs.Script.{reading_of, HasTimes, HasCommandTimes, IsCommandWithin};
 ghost use Rattle.keep_history.specs.Tasks.{NamesWithin};
-ghost use Rattle.keep_run.specs.Commands.{DoesCommand, RefusesCommand, StopsCommand, open_task_of};
+ghost use Rattle.keep_run.specs.Asked.{DoesTurns, StopsTurns, outcome_of};
+ghost use Rattle.keep_run.specs.Commands.{IsCommandDone, IsCommandStopped, IsAskingDone, IsAskingStopped, state_opened, text_opened, state_put, done_of};
 ghost use Rattle.keep_run.specs.Scenes.{IsStageOf, HasRoom, GrowsByLine};
+ghost use Rattle.keep_run.specs.Named.{open_task_of};
+ghost use Rattle.keep_run.specs.Standing.{IsAskable};
 
-use crate::asking::Finished;
-use crate::collections::ask_task;
-use keep_collections::Table;
+use crate::asking::{Open, Turned, ask_turns};
+use keep_cluster::Cluster;
 use keep_config::Config;
-use keep_history::{Command, Opening, Outcome, Task, TaskState};
+use keep_history::{Command, Opening, Outcome, TaskState};
 use keep_script::push_end_line;
 use keep_spec::{Bytes, NoMemory};
 use keep_store::Store;
-use keep_tasks::opened;
-use keep_volume::Volume;
+use keep_tasks::{Opened, Running, open_task};
 use std::alloc::Global;
 use std::collections::BTreeMap;
 
-/// What stands between two lines of a run: the device, the table of collections, what has become of each name, and how many events were made.
+// A step asks once.
+const STEP_TURNS: u32 = 1;
+
+// A task asks each of at most 64 devices twice, so none asks more often.
+const FINISH_TURNS: u32 = 128;
+
+/// What stands between two lines of a run: the devices and the table, and what has become of each name.
 #[derive(Drop)]
-pub(crate) struct Stage<S: Store> {
-    pub(crate) volume: Volume<S>,
-    pub(crate) table: Table,
-    pub(crate) names: BTreeMap<Bytes, TaskState>,
-    pub(crate) events: u64,
+pub(crate) struct Stage<'a, S: Store> {
+    pub(crate) cluster: Cluster<'a, S>,
+    pub(crate) names: BTreeMap<Bytes, TaskState<Open>>,
 }
 
-fn state_after(outcome: Outcome) -> TaskState
+/// How a command was done.
+#[derive(Clone, Copy, Debug, PartialEq, Eq)]
+pub(crate) enum Done {
+    /// All of it was.
+    Whole,
+    /// It asked for an event more than there may be.
+    Spent,
+    /// It can't be done with these names, and nothing was.
+    Refused,
+}
+
+fn state_after(outcome: Outcome) -> TaskState<Open>
     ensures { result ≡ state_after outcome }
 {
     match outcome {
@@ -46,22 +64,22 @@ fn state_after(outcome: Outcome) -> TaskState
     }
 }
 
-fn open_task_of(state: Option<TaskState>) -> Option<Task>
+fn open_task_of(state: Option<TaskState<Open>>) -> Option<Open>
     ensures { result ≡ open_task_of state }
 {
     match state {
-        Some(TaskState::Open { task, actor: _ }) => Some(task),
+        Some(TaskState::Open { task }) => Some(task),
         _ => None,
     }
 }
 
 // Sets what has become of a name's task, and returns what had become of it before.
 fn set_name(
-    names: &mut BTreeMap<Bytes, TaskState>,
+    names: &mut BTreeMap<Bytes, TaskState<Open>>,
     name: Bytes,
-    state: TaskState,
-) -> Result<Option<TaskState>, NoMemory>
-    ensures previous { IfOk result (λ old. old ≡ state_of_name name names.old.entries) }
+    state: TaskState<Open>,
+) -> Result<Option<TaskState<Open>>, NoMemory>
+    ensures previous { IfOk result (λ old. old ≡ at_name name names.old.entries) }
     ensures set { OnOk result (names.new.entries ≡ with_name name state names.old.entries) }
     ensures unchanged { OnErr result (names.new.entries ≡ names.old.entries) }
     ensures one_more { length names.new.entries ≤ length names.old.entries + 1 }
@@ -72,108 +90,173 @@ fn set_name(
     }
 }
 
+// What becomes of a name by an opening. Appends the line of an end at once.
+fn state_opened(
+    opened: Opened<Running>,
+    actor: u32,
+    name: &[u8],
+    out: &mut Vec<u8>,
+) -> Result<TaskState<Open>, NoMemory>
+    ensures state { IfOk result (λ s. s ≡ state_opened actor opened) }
+    ensures printed { IfOk result (λ _. out.new.items ≡ out.old.items ++ text_opened name.now opened) }
+{
+    match opened {
+        Opened::Task(task) => Ok(TaskState::Open {
+            task: Open { task, actor },
+        }),
+        Opened::Ended(outcome) => {
+            push_end_line(out, name, &outcome)?;
+            Ok(state_after(outcome))
+        }
+    }
+}
+
 // Opens a task, which makes no event.
-fn open_task<S: Store>(
+fn open_named<S: Store>(
     alloc: Global,
     config: &Config,
-    stage: &mut Stage<S>,
+    stage: &mut Stage<'_, S>,
     name: Bytes,
     reading: u64,
     opening: Opening,
     out: &mut Vec<u8>,
-) -> Result<(), NoMemory>
+) -> Result<Done, NoMemory>
     requires sound { IsStageOf config.now stage.old }
     requires room { HasRoom stage.old }
     requires times { HasTimes opening }
     requires within { NamesWithin config.now opening }
-    ensures done { OnOk result (DoesCommand config.now (Command.Open name reading opening) stage.old stage.new out.old.items out.new.items) }
-    ensures stopped { OnErr result (StopsCommand config.now (Command.Open name reading opening) stage.old stage.new.volume) }
+    ensures done { IfOk result (IsCommandDone config.now (Command.Open name reading opening) stage.old stage.new out.old.items out.new.items) }
+    ensures stopped { OnErr result (IsCommandStopped config.now (Command.Open name reading opening) stage.old stage.new) }
     ensures sound { IfOk result (λ _. IsStageOf config.now stage.new) }
-    ensures grows { IfOk result (λ _. GrowsByLine stage.old stage.new) }
-    ensures never_falls { stage.old.volume.faults ≤ stage.new.volume.faults }
+    ensures grows { GrowsByLine stage.old stage.new }
+    ensures same_cluster { stage.new.cluster ≡ stage.old.cluster }
 {
     let actor = stage.names.len() as u32;
-    let task = match opened(alloc, config, opening, reading)? {
-        Ok(task) => task,
-        Err(outcome) => {
-            push_end_line(out, name.as_slice(), &outcome)?;
-            let _ = set_name(&mut stage.names, name, state_after(outcome))?;
-            return Ok(());
-        }
-    };
-    let _ = set_name(&mut stage.names, name, TaskState::Open { task, actor })?;
-    Ok(())
+    let opened = open_task(alloc, config, opening, reading)?;
+    let state = state_opened(opened, actor, name.as_slice(), out)?;
+    let _ = set_name(&mut stage.names, name, state)?;
+    Ok(Done::Whole)
 }
 
-// Asks until the task of a name ends. False: the name has no open task, and nothing was asked.
-fn finish_task<S: Store>(
+// Sets what became of a name whose task was asked, and appends the line of its end.
+fn put_back(
+    names: &mut BTreeMap<Bytes, TaskState<Open>>,
+    name: Bytes,
+    open_task: Open,
+    turned: Turned,
+    out: &mut Vec<u8>,
+) -> Result<Done, NoMemory>
+    ensures set { IfOk result (λ _. names.new.entries ≡ with_name name (state_put open_task turned) names.old.entries) }
+    ensures printed { IfOk result (λ _. out.new.items ≡ out.old.items ++ line_of_end name (outcome_of turned)) }
+    ensures done { IfOk result (λ d. d ≡ done_of turned) }
+    ensures one_more { length names.new.entries ≤ length names.old.entries + 1 }
+{
+    match turned {
+        Turned::Ended { outcome } => {
+            push_end_line(out, name.as_slice(), &outcome)?;
+            let _ = set_name(names, name, state_after(outcome))?;
+            Ok(Done::Whole)
+        }
+        Turned::Asks => {
+            let _ = set_name(names, name, TaskState::Open { task: open_task })?;
+            Ok(Done::Whole)
+        }
+        Turned::Spent => {
+            let _ = set_name(names, name, TaskState::Open { task: open_task })?;
+            Ok(Done::Spent)
+        }
+    }
+}
+
+// Asks a task up to so many times at a reading, and returns it as it stands, and how its turns stopped.
+fn ask_at<S: Store>(
+    cluster: &mut Cluster<'_, S>,
+    turns: u32,
+    reading: u64,
+    mut open_task: Open,
+    name: &[u8],
+    out: &mut Vec<u8>,
+) -> Result<(Open, Turned), NoMemory>
+    requires reading { IsReading reading }
+    requires askable { IsAskable (length cluster.old.config.devices) open_task }
+    ensures done { IfOk result (λ p. DoesTurns turns (record cluster.old { reading = reading }) cluster.new open_task p.0 name.now out.old.items out.new.items p.1) }
+    ensures stopped { OnErr result (StopsTurns turns (record cluster.old { reading = reading }) cluster.new open_task) }
+    ensures askable { IfOk result (λ p. outcome_of p.1 ≡ None → IsAskable (length cluster.old.config.devices) p.0) }
+    ensures devices { length cluster.new.config.devices ≡ length cluster.old.config.devices }
+    ensures never_fall { NoneFalls (faults_at cluster.old.devices) (faults_at cluster.new.devices) }
+{
+    cluster.set_reading(reading);
+    let turned = ask_turns(cluster, turns, &mut open_task, name, out)?;
+    Ok((open_task, turned))
+}
+
+// Asks the open task of a name up to so many times.
+fn ask_named<S: Store>(
     alloc: Global,
     config: &Config,
-    stage: &mut Stage<S>,
+    stage: &mut Stage<'_, S>,
+    turns: u32,
     name: Bytes,
     reading: u64,
     out: &mut Vec<u8>,
-) -> Result<bool, NoMemory>
+) -> Result<Done, NoMemory>
     requires sound { IsStageOf config.now stage.old }
-    requires room { HasRoom stage.old }
     requires reading { IsReading reading }
-    ensures done { result ≡ Ok true → DoesCommand config.now (Command.Finish name reading) stage.old stage.new out.old.items out.new.items }
-    ensures refused { result ≡ Ok false → RefusesCommand config.now (Command.Finish name reading) stage.old stage.new.volume }
-    ensures stopped { OnErr result (StopsCommand config.now (Command.Finish name reading) stage.old stage.new.volume) }
+    ensures done { IfOk result (IsAskingDone turns config.now name reading stage.old stage.new out.old.items out.new.items) }
+    ensures stopped { OnErr result (IsAskingStopped turns config.now name reading stage.old stage.new) }
     ensures sound { IfOk result (λ _. IsStageOf config.now stage.new) }
-    ensures grows { IfOk result (λ _. GrowsByLine stage.old stage.new) }
-    ensures never_falls { stage.old.volume.faults ≤ stage.new.volume.faults }
+    ensures grows { GrowsByLine stage.old stage.new }
+    ensures never_fall { NoneFalls (faults_at stage.old.cluster.devices) (faults_at stage.new.cluster.devices) }
+    ensures devices { length stage.new.cluster.config.devices ≡ length stage.old.cluster.config.devices }
 {
     let state = set_name(&mut stage.names, name.duplicate(alloc)?, TaskState::Ended)?;
-    let Some(task) = open_task_of(state) else {
-        return Ok(false);
-    };
-    let Finished { outcome, events } = ask_task(
-        alloc,
-        config,
-        &mut stage.volume,
-        &mut stage.table,
-        reading,
-        name.as_slice(),
-        &task,
-        out,
-    )?;
-    push_end_line(out, name.as_slice(), &outcome)?;
-    let _ = set_name(&mut stage.names, name, state_after(outcome))?;
-    stage.events += events;
-    Ok(true)
+    match open_task_of(state) {
+        Some(open_task) => {
+            let (open_task, turned) = ask_at(
+                &mut stage.cluster,
+                turns,
+                reading,
+                open_task,
+                name.as_slice(),
+                out,
+            )?;
+            put_back(&mut stage.names, name, open_task, turned, out)
+        }
+        None => Ok(Done::Refused),
+    }
 }
 
-/// Does a command, and appends its text to `out`. False: it can't be done with these names, and nothing was. After `NoMemory` the first of its events
-/// were made, and part of the text may stand in `out`.
+/// Does a command, and appends its text to `out`. After `NoMemory` the first of its events were made, and part of the text may stand in `out`.
 pub(crate) fn do_command<S: Store>(
     alloc: Global,
     config: &Config,
-    stage: &mut Stage<S>,
+    stage: &mut Stage<'_, S>,
     command: Command,
     out: &mut Vec<u8>,
-) -> Result<bool, NoMemory>
+) -> Result<Done, NoMemory>
     requires sound { IsStageOf config.now stage.old }
     requires room { HasRoom stage.old }
     requires reading { IsReading (reading_of command) }
     requires times { HasCommandTimes command }
     requires within { IsCommandWithin config.now command }
-    ensures done { result ≡ Ok true → DoesCommand config.now command stage.old stage.new out.old.items out.new.items }
-    ensures refused { result ≡ Ok false → RefusesCommand config.now command stage.old stage.new.volume }
-    ensures stopped { OnErr result (StopsCommand config.now command stage.old stage.new.volume) }
+    ensures done { IfOk result (IsCommandDone config.now command stage.old stage.new out.old.items out.new.items) }
+    ensures stopped { OnErr result (IsCommandStopped config.now command stage.old stage.new) }
     ensures sound { IfOk result (λ _. IsStageOf config.now stage.new) }
-    ensures grows { IfOk result (λ _. GrowsByLine stage.old stage.new) }
-    ensures never_falls { stage.old.volume.faults ≤ stage.new.volume.faults }
+    ensures grows { GrowsByLine stage.old stage.new }
+    ensures never_fall { NoneFalls (faults_at stage.old.cluster.devices) (faults_at stage.new.cluster.devices) }
+    ensures devices { length stage.new.cluster.config.devices ≡ length stage.old.cluster.config.devices }
 {
     match command {
         Command::Open {
             name,
             reading,
             opening,
-        } => {
-            open_task(alloc, config, stage, name, reading, opening, out)?;
-            Ok(true)
+        } => open_named(alloc, config, stage, name, reading, opening, out),
+        Command::Step { name, reading } => {
+            ask_named(alloc, config, stage, STEP_TURNS, name, reading, out)
         }
-        Command::Finish { name, reading } => finish_task(alloc, config, stage, name, reading, out),
+        Command::Finish { name, reading } => {
+            ask_named(alloc, config, stage, FINISH_TURNS, name, reading, out)
+        }
     }
 }

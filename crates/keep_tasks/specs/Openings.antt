@@ -19,16 +19,3 @@ AsksTable other = ⊤
 abbrev pub made : {X : Type 0} → (X → Task) → Result X Outcome → Result Task Outcome
 made make (Ok x) = Ok (make x)
 made make (Err outcome) = Err outcome
-
--- the devices that a task walks over
-abbrev pub walked : Task → List ℕ
-walked (T.Put devices token id block) = devices
-walked (T.Get devices hash) = devices
-walked (T.Touch devices token id hash text) = devices
-walked (T.Untrash devices hash) = devices
-walked _ = []
-
--- a task that was made walks over devices below a number
-abbrev pub HasDevicesBelow : ℕ → Result Task Outcome → Type 0
-HasDevicesBelow n (Ok task) = All (λ d. d < n) (walked task)
-HasDevicesBelow n (Err outcome) = ⊤

@@ -20,7 +20,6 @@ mod walk;
 
 pub use get::GetTask;
 pub use locator::{signed_locator, touched_locator};
-pub use opening::opened;
 pub use put::PutTask;
 pub use restart::RestartTask;
 pub use running::{Running, open_task};

@@ -1,17 +1,17 @@
 // What an opening makes: a task, or an end at once.
 ghost use Rattle.std.specs.Prelude.{◌≡◌, ◌<◌, ℕ, List, IfOk, IsTrue, All, length};
 ghost use Rattle.keep_spec.specs.Config.{devices_of};
-ghost use Rattle.keep_history.specs.Tasks.{opened, NamesWithin, put_opened, get_opened, touch_opened, untrash_opened, on_any, permitted_block, asks_table, by_verdict, has_other_digest, is_read_only, is_task_query, writable};
+ghost use Rattle.keep_history.specs.Tasks.{opened, put_opened, get_opened, touch_opened, untrash_opened, on_any, permitted_block, asks_table, by_verdict, has_other_digest, is_read_only, is_task_query, writable};
 ghost use Rattle.keep_history.specs.Script.{HasTimes};
 ghost use Rattle.keep_event.specs.Requests.{MayAskTable};
 ghost use Rattle.keep_history.specs.declared.task.Task.{Task as TheTask};
 ghost use Rattle.keep_spec.specs.declared.token.TokenId.{TokenId as TheTokenId};
-ghost use Rattle.keep_tasks.specs.Openings.{AsksTable, HasDevicesBelow, made};
+ghost use Rattle.keep_tasks.specs.Openings.{AsksTable, made};
 
 use crate::uuid::collection_number;
 use keep_config::Config;
 use keep_event::{Block, TableQuery};
-use keep_history::{Opening, Outcome, Task};
+use keep_history::{Opening, Outcome};
 use keep_locator::Locator;
 use keep_sign::verify;
 use keep_spec::{Bytes, Digest, Items, NoMemory, TokenId, Unverified, Verified};
@@ -76,29 +76,6 @@ pub(crate) fn put_parts(
         return Ok(Err(Outcome::NoRoom));
     }
     Ok(Ok((devices, block)))
-}
-
-fn open_put(
-    alloc: Global,
-    config: &Config,
-    server: u32,
-    id: TokenId,
-    token: Bytes,
-    bytes: Bytes,
-    digest: Option<Digest>,
-) -> Result<Result<Task, Outcome>, NoMemory>
-    ensures opened { IfOk result (λ r. r ≡ put_opened config.now server id token bytes digest) }
-    ensures within { IfOk result (HasDevicesBelow (length config.now.devices)) }
-{
-    match put_parts(alloc, config, server, bytes, digest)? {
-        Ok((devices, block)) => Ok(Ok(Task::Put {
-            devices,
-            token,
-            id,
-            block,
-        })),
-        Err(outcome) => Ok(Err(outcome)),
-    }
 }
 
 // The digest that a verdict lets a token ask for.
@@ -168,32 +145,6 @@ pub(crate) fn get_parts(
     Ok(Ok((devices, digest)))
 }
 
-fn open_get(
-    alloc: Global,
-    config: &Config,
-    server: u32,
-    id: TokenId,
-    token: &Bytes,
-    text: &Bytes,
-    reading: u64,
-) -> Result<Result<Task, Outcome>, NoMemory>
-    ensures opened { IfOk result (λ r. r ≡ get_opened config.now server id token.now text.now reading) }
-    ensures within { IfOk result (HasDevicesBelow (length config.now.devices)) }
-{
-    match get_parts(
-        alloc,
-        config,
-        server,
-        id,
-        token.as_slice(),
-        text.as_slice(),
-        reading,
-    )? {
-        Ok((devices, digest)) => Ok(Ok(Task::Get { devices, digest })),
-        Err(outcome) => Ok(Err(outcome)),
-    }
-}
-
 /// What a touch goes on with: its devices, at least one, its digest, and the locator without its hints.
 pub(crate) fn touch_parts(
     alloc: Global,
@@ -231,38 +182,6 @@ pub(crate) fn touch_parts(
     Ok(Ok((devices, digest, stripped)))
 }
 
-fn open_touch(
-    alloc: Global,
-    config: &Config,
-    server: u32,
-    id: TokenId,
-    token: Bytes,
-    text: &Bytes,
-    reading: u64,
-) -> Result<Result<Task, Outcome>, NoMemory>
-    ensures opened { IfOk result (λ r. r ≡ touch_opened config.now server id token text.now reading) }
-    ensures within { IfOk result (HasDevicesBelow (length config.now.devices)) }
-{
-    match touch_parts(
-        alloc,
-        config,
-        server,
-        id,
-        token.as_slice(),
-        text.as_slice(),
-        reading,
-    )? {
-        Ok((devices, digest, stripped)) => Ok(Ok(Task::Touch {
-            devices,
-            token,
-            id,
-            digest,
-            stripped,
-        })),
-        Err(outcome) => Ok(Err(outcome)),
-    }
-}
-
 /// The devices that an untrash goes on with, at least one.
 pub(crate) fn untrash_parts(
     alloc: Global,
@@ -282,22 +201,6 @@ pub(crate) fn untrash_parts(
         return Ok(Err(Outcome::NotFound));
     }
     Ok(Ok(devices))
-}
-
-fn open_untrash(
-    alloc: Global,
-    config: &Config,
-    server: u32,
-    id: TokenId,
-    digest: Digest,
-) -> Result<Result<Task, Outcome>, NoMemory>
-    ensures opened { IfOk result (λ r. r ≡ untrash_opened config.now server id digest) }
-    ensures within { IfOk result (HasDevicesBelow (length config.now.devices)) }
-{
-    match untrash_parts(alloc, config, server, id)? {
-        Ok(devices) => Ok(Ok(Task::Untrash { devices, digest })),
-        Err(outcome) => Ok(Err(outcome)),
-    }
 }
 
 /// The query of an opening that asks the table. Where the times of a trash are readings, it may be asked.
@@ -345,59 +248,5 @@ pub(crate) fn table_query(config: &Config, opening: Opening) -> TableQuery
         },
         Opening::Sweep => TableQuery::Sweep,
         _ => unreachable!(),
-    }
-}
-
-/// The task that an opening makes at a reading (nanoseconds since 1970), or its end at once. Nothing is asked. A server or a device that the opening names is
-/// one of the configuration, and so are the devices of a walk.
-#[tactic(auto, unfolding(keep_history::specs::Tasks::opened))]
-pub fn opened(
-    alloc: Global,
-    config: &Config,
-    opening: Opening,
-    reading: u64,
-) -> Result<Result<Task, Outcome>, NoMemory>
-    requires within { NamesWithin config.now opening }
-    ensures opened { IfOk result (λ r. r ≡ opened config.now opening reading) }
-    ensures within { IfOk result (HasDevicesBelow (length config.now.devices)) }
-{
-    match opening {
-        Opening::Put {
-            token,
-            server,
-            bytes,
-            digest,
-        } => match config.token(token.as_slice()) {
-            Some(id) => open_put(alloc, config, server, id, token, bytes, digest),
-            None => Ok(Err(Outcome::UnknownToken)),
-        },
-        Opening::Get {
-            token,
-            server,
-            locator,
-        } => match config.token(token.as_slice()) {
-            Some(id) => open_get(alloc, config, server, id, &token, &locator, reading),
-            None => Ok(Err(Outcome::UnknownToken)),
-        },
-        Opening::Touch {
-            token,
-            server,
-            locator,
-        } => match config.token(token.as_slice()) {
-            Some(id) => open_touch(alloc, config, server, id, token, &locator, reading),
-            None => Ok(Err(Outcome::UnknownToken)),
-        },
-        Opening::Untrash {
-            token,
-            server,
-            digest,
-        } => match config.token(token.as_slice()) {
-            Some(id) => open_untrash(alloc, config, server, id, digest),
-            None => Ok(Err(Outcome::UnknownToken)),
-        },
-        Opening::Restart { device } => Ok(Ok(Task::Restart { device })),
-        _ => Ok(Ok(Task::Table {
-            query: table_query(config, opening),
-        })),
     }
 }

@@ -1,8 +1,34 @@
-use Rattle.keep_run.proofs.GetsOfPuts.{told-reads}
+use Rattle.std.proofs.Common.{rules}
+use Rattle.keep_history.proofs.Collisions.{told-collisions}
+use Rattle.keep_history.proofs.GetsOfPuts.{told-reads}
+use Rattle.keep_history.proofs.GoodTasks.{told-good-tasks}
+use Rattle.keep_run.proofs.Inputs.{whole-ran}
+use Rattle.keep_run.proofs.Saves.{told-saves}
 use Rattle.keep_run.proofs.call.run_call.Goals as goal
 
 pub returns-then-not-is_run-clause-reads : goal.returns-then-not-is_run-clause-reads
-returns-then-not-is_run-clause-reads g c = told-reads _ _ _
+returns-then-not-is_run-clause-reads g c = told-reads _ _
+
+pub returns-then-not-is_run-clause-collisions : goal.returns-then-not-is_run-clause-collisions
+returns-then-not-is_run-clause-collisions g c = told-collisions _ _
 
 pub returns-clause-reads : goal.returns-clause-reads
-returns-clause-reads g c = told-reads _ _ _
+returns-clause-reads g c = told-reads _ _
+
+pub returns-clause-collisions : goal.returns-clause-collisions
+returns-clause-collisions g c = told-collisions _ _
+
+pub returns-then-not-is_run-clause-good_tasks : goal.returns-then-not-is_run-clause-good_tasks
+returns-then-not-is_run-clause-good_tasks g c = told-good-tasks _ _
+
+pub returns-clause-good_tasks : goal.returns-clause-good_tasks
+returns-clause-good_tasks g c = told-good-tasks _ _
+
+pub returns-clause-whole : goal.returns-clause-whole
+returns-clause-whole g c = λ words bytes t starts left taken tell. whole-ran _ _ bytes t starts _ _ _ (search rules)
+
+pub returns-then-not-is_run-clause-saves : goal.returns-then-not-is_run-clause-saves
+returns-then-not-is_run-clause-saves g c = told-saves _ _
+
+pub returns-clause-saves : goal.returns-clause-saves
+returns-clause-saves g c = told-saves _ _

@@ -1,25 +1,25 @@
-use Rattle.std.proofs.Common.{◌≡◌, ◌≤◌, ◌*◌, ◌-◌, None, length}
+use Rattle.std.proofs.Common.{◌≡◌, ◌≤◌, ◌*◌, ◌-◌, ℕ, List, None, Some, length}
 use Rattle.keep_base.specs.Lines.{lines_left, lines_failed, lines_taken, lines_number, lines_source, lines_name}
-use Rattle.keep_volume.specs.Calls.{state_of}
-use Rattle.keep_event.specs.Counters.{CountersUpTo}
-use Rattle.keep_run.specs.Scenes.{IsStageOf, passage}
-use Rattle.keep_run.specs.Runs.{AllTold, Going, beginning}
+use Rattle.keep_event.specs.Port.{NoneFalls}
+use Rattle.keep_event.specs.World.{new_world}
+use Rattle.keep_cluster.specs.Cluster.{faults_at, world_of}
+use Rattle.keep_run.specs.Going.{Going}
+use Rattle.keep_run.specs.Runs.{beginning}
+use Rattle.keep_run.specs.Scenes.{IsStageOf}
 use Rattle.keep_run.proofs.run.run_lines.Given as goal
 
 abbrev pub invariant-loop-line : goal.invariant-loop-line
 invariant-loop-line g l = record {
   unfailed : lines_failed l.lines ≡ None;
-  events : l.stage.events ≤ 2 * lines_number l.lines;
   names : length l.stage.names.entries ≤ 2 * lines_number l.lines;
-  table : CountersUpTo (lines_number l.lines) l.stage.table.state;
   sound : IsStageOf l.config l.stage;
   name : lines_name l.lines ≡ lines_name l.fn.lines;
+  devices : length l.stage.cluster.config.devices ≡ length l.fn.stage.cluster.config.devices;
   source_never_falls : g.R.Source.faults (lines_source l.fn.lines) ≤ g.R.Source.faults (lines_source l.lines);
-  store_never_falls : l.fn.stage.volume.faults ≤ l.stage.volume.faults;
+  stores_never_fall : NoneFalls (faults_at l.fn.stage.cluster.devices) (faults_at l.stage.cluster.devices);
   sink_never_falls : g.W.Sink.faults l.fn.sink ≤ g.W.Sink.faults l.sink;
-  told : AllTold (lines_left l.fn.lines) (state_of l.fn.stage.volume) (g.W.Sink.taken l.fn.sink) (λ bytes s t.
-      Going l.config (beginning (lines_taken l.fn.lines) (lines_number l.fn.lines) bytes s t) (lines_taken l.lines) (lines_number l.lines) (lines_left l.lines)
-      (passage l.fn.stage l.stage) (g.W.Sink.taken l.sink));
+  told : (bytes : List ℕ) → (t : List ℕ) → lines_left l.fn.lines ≡ Some bytes → world_of l.fn.stage.cluster ≡ Some (new_world l.config) → g.W.Sink.taken l.fn.sink ≡ Some t →
+      Going l.config (beginning (lines_taken l.fn.lines) (lines_number l.fn.lines) bytes) (lines_taken l.lines) (lines_number l.lines) (lines_left l.lines) l.fn.stage l.stage t (g.W.Sink.taken l.sink);
 }
 
 abbrev pub decreases-loop-line : goal.decreases-loop-line
