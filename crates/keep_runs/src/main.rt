@@ -11,9 +11,9 @@ use std::io;
 
 // The subjects of this program.
 #[derive(Clone, Copy)]
-struct Runs;
+struct Scripts;
 
-impl Subjects for Runs {
+impl Subjects for Scripts {
     fn answer_to(&self, alloc: Global, subject: &str, case: &Case, answer: &mut Answer) -> bool {
         match subject {
             "commands" => runs::answer_commands(alloc, case, answer),
@@ -26,5 +26,5 @@ impl Subjects for Runs {
 }
 
 fn main(rt: HostRuntime) -> io::Result<()> {
-    run_cases(&rt, &Runs)
+    run_cases(&rt, &Scripts)
 }

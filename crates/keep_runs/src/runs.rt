@@ -2,7 +2,7 @@
 // `commands`: the input is a configuration and script lines, an empty line, and lines that are tried one by one, each as the next line of that script. The answer is
 // what the line prints, and `taken`, or `refused` where it is no script line.
 // Settings: `words` (`run` where there is none), `stores` (how many, 1), `held NUMBER ..` (what the store with this number holds before), `note NUMBER ROUND`,
-// `store_fails`, `source_fails`, `sink_fails` (the numbers of the calls that fail, of each store).
+// `store_fails`, `source_fails`, `sink_fails` (the numbers of the calls that fail, of each store), `fails NUMBER ..` (those of one store).
 use crate::statuses::add_status;
 use keep_base::{ByteSink, ByteSource};
 use keep_casebook::{Answer, Case, OutOfMemory, answer_store, numbers_of, put_held};
@@ -91,8 +91,8 @@ fn words_of(alloc: Global, case: &Case) -> Result<Vec<String>, OutOfMemory> {
 // The stores, with what the case says that they hold.
 fn stores_of(alloc: Global, case: &Case) -> Result<Vec<MemoryStore>, OutOfMemory> {
     let mut stores = Vec::new(alloc);
-    for _ in 0..case.number("stores", 1).min(64) {
-        let fails = numbers_of(alloc, case.value("store_fails").unwrap_or(""))?;
+    for number in 0..case.number("stores", 1).min(64) {
+        let fails = numbers_of(alloc, fails_of(case, number))?;
         stores.push(MemoryStore::new(alloc, fails))?;
     }
     for setting in case.settings() {
@@ -103,6 +103,17 @@ fn stores_of(alloc: Global, case: &Case) -> Result<Vec<MemoryStore>, OutOfMemory
         }
     }
     Ok(stores)
+}
+
+// The calls of the store of a number that fail: its own, or those of every store.
+fn fails_of<'a>(case: &Case<'a>, number: u64) -> &'a str {
+    for setting in case.settings() {
+        let (store, calls) = setting.value.split_once(' ').unwrap_or(("", ""));
+        if setting.key == "fails" && store.parse::<u64>() == Ok(number) {
+            return calls;
+        }
+    }
+    case.value("store_fails").unwrap_or("")
 }
 
 // Does to a store what a setting says.
