@@ -1,4 +1,4 @@
-// A link in memory, whose answers are given beforehand.
+// A link in memory, whose answers are given beforehand. What is proved of it is what it tells.
 ghost use Rattle.std.specs.Prelude.{◌≡◌, ◌≤◌, ◌++◌, take, length, min, IfOk, Ok};
 ghost use Rattle.keep_client.specs.Exchanges.{begun, after_write, after_read};
 
@@ -6,7 +6,7 @@ use crate::link::{Exchange, Link, Standing};
 use keep_spec::{Bytes, Failed, NoMemory};
 use std::alloc::Global;
 
-/// What a scripted link gives at an opening.
+/// What a scripted link is to give at an opening.
 #[derive(Drop, Debug)]
 pub enum LinkAnswer {
     /// The opening succeeds, whatever is written is taken, and the answer has these bytes and then ends.
@@ -15,7 +15,9 @@ pub enum LinkAnswer {
     Fails,
 }
 
-/// A link in memory whose answers are given beforehand, one for each opening in order, whichever server is asked; once they are used up each opening fails. It tells its exchanges, until memory for them is refused.
+/// A link in memory whose answers are given beforehand, one for each opening in order, whichever server is asked; once they are used up each opening fails. A write takes all bytes, a read gives as many as are left and fit.
+///
+/// It is proved that it tells its exchanges until it stops telling. That it stops only where memory for them is refused, and which calls fail and which bytes are given, no clause says; the cases show it.
 #[derive(Drop)]
 pub struct ScriptedLink {
     alloc: Global,
@@ -129,7 +131,7 @@ impl ScriptedLink {
         }
     }
 
-    /// The exchanges so far, in order; `None` where memory for them was refused.
+    /// The exchanges so far, in order; `None` once the link has stopped telling, as it does where memory for them is refused.
     pub fn exchanges(&self) -> Option<&[Exchange]>
         ensures { option_copied result ≡ ⟦<ScriptedLink as Link>⟧.told self.now }
     {

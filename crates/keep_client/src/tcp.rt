@@ -6,7 +6,7 @@ use std::io::{Read, Write};
 use std::net::{Net, TcpStream};
 use std::str;
 
-/// A link over TCP, one connection for each exchange. A server is reached at the first of its addresses in the configuration that can be connected to. Each error of a socket counts as a failure. Nothing is told of what is exchanged.
+/// A link over TCP, one connection for each exchange. A server is reached at the first of its addresses in the configuration that can be connected to. An opening fails, and counts as one failure, where none of them can; those that refuse before another one answers count for nothing. Each error of a read or a write counts as a failure, also where it was only interrupted, and so does a write that takes nothing of bytes that there are. Nothing is told of what is exchanged.
 #[derive(Drop)]
 pub struct TcpLink<'a, N: Net> {
     net: &'a N,
