@@ -1,16 +1,17 @@
 // Whether histories are safe, whether or not a machine would answer so: the setting `config` is a configuration, and each line of the input is an event, its reading first:
-// `put DEVICE MTIME TEXT` and `touch DEVICE MTIME TEXT` (written and touched at this time, with the first client's token), `back DEVICE TEXT`, `trashed DEVICE TEXT`,
+// `put DEVICE MTIME TEXT` and `touch DEVICE MTIME TEXT` (written and touched at this time, with the first client's token), `back DEVICE TEXT`,
 // `save NUMBER TEXT..`, `update NUMBER TEXT..` and `preserve NUMBER TEXT..` (of a manifest that names the blocks of these texts), `read NUMBER EXPIRY TEXT..`,
-// `trash NUMBER DELETE_AT`, `restore NUMBER`, `sweep`. The answer has a line for each protected digest, with the devices that hold it, and at last `safe`, or the digest
-// that is held nowhere.
+// `trash NUMBER DELETE_AT`, `restore NUMBER`, `sweep`. Of rounds: `begin ROUND`, `clear DEVICE ROUND`, `page DEVICE ROUND MTIME TEXT..` (of replicas with this time),
+// `scan ROUND AFTER more|last`, then a revision and a text for each row, `accept DEVICE ROUND MTIME TEXT..` (of a trash list of replicas with this time),
+// `trashed DEVICE ROUND TEXT`. The answer has a line for each protected digest, with the devices that hold it, and at last `safe`, or the digest that is held nowhere.
 use keep_casebook::{Answer, Case, OutOfMemory};
 use keep_config::Config;
 use keep_core::{Unsafe, holders, protected, safe_at};
 use keep_event::{
-    Answer as EventAnswer, Block, DeviceAnswer, DeviceQuery, Event, Query, SaveRequest,
-    TableAnswer, TableQuery,
+    Answer as EventAnswer, Block, DeviceAnswer, DeviceQuery, Entry, Event, Lists, Query,
+    SaveRequest, ScanRow, TableAnswer, TableQuery, TrashItem,
 };
-use keep_spec::{Bytes, Digest, Portable, TokenId};
+use keep_spec::{Bytes, Digest, Items, Portable, TokenId};
 use std::alloc::Global;
 use std::str::from_utf8;
 
@@ -100,13 +101,20 @@ fn event_of(alloc: Global, tick: u64, words: &mut Words) -> Result<Event, OutOfM
     let kind = words.word();
     let number = words.number();
     let (query, answer) = match kind {
-        "put" | "touch" | "back" | "trashed" => {
+        "put" | "touch" | "back" | "trashed" | "clear" | "page" | "accept" => {
             let (query, answer) = at_device(alloc, kind, words)?;
             (
                 Query::Device(u32::try_from(number).unwrap_or(u32::MAX), query),
                 EventAnswer::Device(answer),
             )
         }
+        "begin" => (
+            Query::Table(TableQuery::BeginRound),
+            EventAnswer::Table(TableAnswer::Round {
+                round: number,
+                started: reading,
+            }),
+        ),
         _ => {
             let (query, answer) = at_table(alloc, kind, number, words)?;
             (Query::Table(query), EventAnswer::Table(answer))
@@ -151,6 +159,35 @@ fn at_device(
                 DeviceAnswer::Back { mtime: 0 },
             ))
         }
+        _ => of_round(alloc, kind, words),
+    }
+}
+
+// An event of a round at a device.
+fn of_round(
+    alloc: Global,
+    kind: &str,
+    words: &mut Words,
+) -> Result<(DeviceQuery, DeviceAnswer), OutOfMemory> {
+    let round = words.number();
+    match kind {
+        "clear" => Ok((DeviceQuery::Clear { round }, DeviceAnswer::Cleared)),
+        "page" => {
+            let entries = Items::of(entries_of(alloc, words)?);
+            let prefix = Bytes::of(Vec::new(alloc));
+            Ok((
+                DeviceQuery::Page { round, prefix },
+                DeviceAnswer::Page { entries },
+            ))
+        }
+        "accept" => {
+            let lists = lists_of(alloc, words)?;
+            let trash = lists.trash.as_slice().len() as u64;
+            Ok((
+                DeviceQuery::Accept { round, lists },
+                DeviceAnswer::Accepted { trash, pull: 0 },
+            ))
+        }
         _ => {
             let digest = block_of(alloc, words.word())?.digest();
             Ok((
@@ -158,11 +195,41 @@ fn at_device(
                 DeviceAnswer::Trashed {
                     digest,
                     deadline: 0,
-                    round: 1,
+                    round,
                 },
             ))
         }
     }
+}
+
+// Replicas of the words with the time before them.
+fn entries_of(alloc: Global, words: &mut Words) -> Result<Vec<Entry>, OutOfMemory> {
+    let mtime = words.number();
+    let mut entries = Vec::new(alloc);
+    for word in words.rest.split_whitespace() {
+        let digest = block_of(alloc, word)?.digest();
+        entries.push(Entry {
+            digest,
+            size: 3,
+            mtime,
+        })?;
+    }
+    Ok(entries)
+}
+
+fn lists_of(alloc: Global, words: &mut Words) -> Result<Lists, OutOfMemory> {
+    let mut trash = Vec::new(alloc);
+    for entry in &entries_of(alloc, words)? {
+        trash.push(TrashItem {
+            digest: entry.digest,
+            size: entry.size,
+            mtime: entry.mtime,
+        })?;
+    }
+    Ok(Lists {
+        trash: Items::of(trash),
+        pull: Items::of(Vec::new(alloc)),
+    })
 }
 
 fn bytes_of(alloc: Global, text: &str) -> Result<Bytes, OutOfMemory> {
@@ -227,6 +294,7 @@ fn at_table(
             },
         )),
         "read" => read_of(alloc, number, words),
+        "scan" => scan_of(alloc, number, words),
         _ => about_times(alloc, kind, number, words),
     }
 }
@@ -252,6 +320,46 @@ fn read_of(
             text: manifest_of(alloc, words)?,
         },
     ))
+}
+
+fn scan_of(
+    alloc: Global,
+    round: u64,
+    words: &mut Words,
+) -> Result<(TableQuery, TableAnswer), OutOfMemory> {
+    let after = words.number();
+    let last = words.word() == "last";
+    let rows = Items::of(rows_of(alloc, words)?);
+    Ok((
+        TableQuery::Scan {
+            round,
+            after,
+            limit: 1000,
+        },
+        TableAnswer::Rows { rows, last },
+    ))
+}
+
+// A row for each revision and text of the words.
+fn rows_of(alloc: Global, words: &mut Words) -> Result<Vec<ScanRow>, OutOfMemory> {
+    let mut rows = Vec::new(alloc);
+    let mut revision = None;
+    for word in words.rest.split_whitespace() {
+        match revision {
+            None => revision = Some(word.parse::<u64>().unwrap_or(0)),
+            Some(number) => {
+                let mut digests = Vec::new(alloc);
+                digests.push(block_of(alloc, word)?.digest())?;
+                rows.push(ScanRow {
+                    revision: number,
+                    digests: Items::of(digests),
+                    want: 1,
+                })?;
+                revision = None;
+            }
+        }
+    }
+    Ok(rows)
 }
 
 fn about_times(
