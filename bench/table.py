@@ -2,12 +2,17 @@
 """Times the calls of the table of collections: that they grow no faster than by the height of a tree, and beside SQLite in memory.
 
     bench/table.py PROGRAM [COLLECTIONS]
+    bench/table.py PROGRAM versions
 
 PROGRAM is the built `keep_bench`. `keep_bench table` makes so many collections (1,000, 10,000 and so on up to COLLECTIONS,
 1,000,000 where none is said), updates, reads, trashes and restores each once, in a scattered order, asks what is wanted of each
 one's digest, and sweeps twice: once all superseded versions, and once all collections. The same statements run by Python's
 sqlite3 on a database in memory, with an index for each look-up, in one transaction. The median of three runs counts, of five
-below 100,000. What is printed is microseconds a call, a sweep's for each that went; each ratio is of the same run."""
+below 100,000. What is printed is microseconds a call, a sweep's for each that went; each ratio is of the same run.
+
+`keep_bench versions` gives one collection 10, 1,000 and 100,000 versions and times 1,000 updates more: of a collection whose
+versions are preserved, and of one whose versions are kept and not yet due. It reads the newest preserved version, and times one
+update that drops all that were kept, for each that goes."""
 import sqlite3
 import statistics
 import struct
@@ -16,8 +21,10 @@ import sys
 import time
 
 STRIDE = 7919
+UPDATES = 1000
 READING = 1700000000000000000
 LATER = 1800000000000000000
+FOREVER = 2 ** 63 - 1
 GRACE = (1209600 + 2 * 5) * 10 ** 9
 TEXT = b". 00000000000000000000000000000000+3 0:3:foo\n"
 NAMES = ["save", "update", "read", "wanted", "trash", "restore", "sweep-versions", "trash-again", "sweep-collections"]
@@ -28,13 +35,14 @@ def digest_of(number):
     return struct.pack(">QQ", (number * 0x9e3779b97f4a7c15 & MASK) ^ (number >> 7), number)
 
 
-def ours(program, count):
-    said = subprocess.run([program, "table"], input=b"%d" % count, stdout=subprocess.PIPE, check=True).stdout.decode()
+def ours(program, task, count):
+    said = subprocess.run([program, task], input=b"%d" % count, stdout=subprocess.PIPE, check=True).stdout.decode()
     figures = {}
     for line in said.split("\n"):
         if line:
             name, done, nanos = line.split()
-            assert int(done) == count, line
+            wanted = count if task == "table" else count + UPDATES if name == "drop-due" else UPDATES
+            assert int(done) == wanted, line
             figures[name] = int(nanos) / 1000
     return figures
 
@@ -49,6 +57,7 @@ class Base:
             "CREATE TABLE records (revision INTEGER PRIMARY KEY, collection INTEGER, version INTEGER, want INTEGER, until INTEGER, text BLOB)",
             "CREATE TABLE named (digest BLOB, want INTEGER, revision INTEGER)",
             "CREATE INDEX by_collection ON records (collection, version)",
+            "CREATE INDEX by_standing ON records (collection, until)",
             "CREATE INDEX by_until ON records (until)",
             "CREATE INDEX by_digest ON named (digest, want)",
             "CREATE INDEX by_revision ON named (revision)",
@@ -67,14 +76,14 @@ class Base:
         self.base.execute("INSERT INTO collections VALUES (?, 0, NULL, NULL)", (number,))
         self.add(number, 1, 1)
 
-    def update(self, number):
+    def update(self, number, versions=4, until=READING + GRACE, reading=READING):
         trash_at, = self.base.execute("SELECT trash_at FROM collections WHERE number = ?", (number,)).fetchone()
         assert trash_at is None
-        held, = self.base.execute("SELECT count(*) FROM records WHERE collection = ? AND until >= ?", (number, READING)).fetchone()
-        assert held < 4
+        held, = self.base.execute("SELECT count(*) FROM records WHERE collection = ? AND until >= ?", (number, reading)).fetchone()
+        assert held < versions
         version, = self.base.execute("SELECT version FROM records WHERE collection = ? AND until IS NULL", (number,)).fetchone()
-        self.base.execute("DELETE FROM records WHERE collection = ? AND until < ?", (number, READING))
-        self.base.execute("UPDATE records SET until = ? WHERE collection = ? AND until IS NULL", (READING + GRACE, number))
+        self.base.execute("DELETE FROM records WHERE collection = ? AND until < ?", (number, reading))
+        self.base.execute("UPDATE records SET until = ? WHERE collection = ? AND until IS NULL", (until, number))
         self.add(number, version + 1, 2)
 
     def read(self, number):
@@ -120,11 +129,49 @@ def theirs(count):
     return figures
 
 
+def theirs_of_versions(count):
+    figures = {}
+    for name, until in (("preserved", FOREVER), ("kept", READING + GRACE)):
+        base = Base()
+        base.save(1)
+        base.base.execute("UPDATE records SET until = ?", (until,))
+        for version in range(2, count + 1):
+            base.add(1, version, 2)
+            base.base.execute("UPDATE records SET until = ? WHERE revision = ?", (until, base.revision))
+        base.add(1, count + 1, 2)
+        updates = UPDATES if count < 100000 else 20
+        start = time.monotonic()
+        for _ in range(updates):
+            base.update(1, FOREVER, until)
+        figures[name] = (time.monotonic() - start) * 10 ** 6 / updates
+        start = time.monotonic()
+        if name == "preserved":
+            for _ in range(UPDATES):
+                base.base.execute("SELECT version, want, text FROM records WHERE collection = 1 AND version = ? AND (until IS NULL OR until = ?)", (count, FOREVER)).fetchone()
+            figures["read-version"] = (time.monotonic() - start) * 10 ** 6 / UPDATES
+        else:
+            base.update(1, FOREVER, LATER + GRACE, LATER)
+            figures["drop-due"] = (time.monotonic() - start) * 10 ** 6 / (count + updates)
+    return figures
+
+
+def time_versions(program):
+    for count in (10, 1000, 100000):
+        runs = [(ours(program, "versions", count), theirs_of_versions(count)) for _ in range(3)]
+        for name in ("preserved", "kept", "read-version", "drop-due"):
+            mine, other = (statistics.median(run[side][name] for run in runs) for side in (0, 1))
+            ratio = statistics.median(run[0][name] / run[1][name] for run in runs)
+            print("%8d %-18s %8.2f us, sqlite3 %8.2f us: %.4f times" % (count, name, mine, other, ratio), flush=True)
+
+
 def main():
+    if sys.argv[2:] == ["versions"]:
+        time_versions(sys.argv[1])
+        return
     program, most = sys.argv[1], int(sys.argv[2]) if len(sys.argv) > 2 else 1000000
     count = 1000
     while count <= most:
-        runs = [(ours(program, count), theirs(count)) for _ in range(3 if count >= 100000 else 5)]
+        runs = [(ours(program, "table", count), theirs(count)) for _ in range(3 if count >= 100000 else 5)]
         for name in NAMES:
             if name != "trash-again":
                 mine, other = (statistics.median(run[side][name] for run in runs) for side in (0, 1))

@@ -14,20 +14,19 @@ const STARTED: u64 = 1_700_000_000_000_000_000;
 
 const SECOND: u64 = 1_000_000_000;
 
-// Each tenth event is a sweep, and of the others each third saves the block that was put before, as a new collection or a new version of one of a hundred.
+// Events from the put of a block that nobody saves to its trash step, a second each: more than the grace of the configuration, 102 s.
+const UNSAVED_FOR: u64 = 111;
+
+// A round of nine events: a sweep or a read, three blocks that are put and saved at once, and a block that nobody saves, which is trashed once its signature is over.
 fn event_of(alloc: Global, config: &Config, tick: u64) -> Result<Option<Event>> {
-    let (query, answer) = if tick % 10 == 9 {
-        swept()
-    } else if tick % 3 == 2 {
-        match saved(alloc, tick)? {
-            Some(event) => event,
-            None => return Ok(None),
-        }
-    } else {
-        match put(alloc, config, tick)? {
-            Some(event) => event,
-            None => return Ok(None),
-        }
+    let asked = match tick % 9 {
+        0 => swept_or_read(alloc, tick)?,
+        2 | 5 | 8 => saved(alloc, tick)?,
+        6 if tick > UNSAVED_FOR => trashed(alloc, config, tick - UNSAVED_FOR)?,
+        _ => put(alloc, config, tick)?,
+    };
+    let Some((query, answer)) = asked else {
+        return Ok(None);
     };
     Ok(Some(Event {
         tick,
@@ -49,83 +48,126 @@ fn block_of(alloc: Global, number: u64) -> Result<Option<Block>> {
     Ok(Block::of(bytes).ok())
 }
 
+// The device that a block is put on.
+fn device_of(config: &Config, number: u64) -> u32 {
+    let devices = (config.devices.len() as u64).max(1);
+    u32::try_from((number / 3) % devices).unwrap_or(0)
+}
+
 fn put(alloc: Global, config: &Config, tick: u64) -> Result<Option<(Query, Answer)>> {
     let Some(block) = block_of(alloc, tick)? else {
         return Ok(None);
     };
-    let devices = (config.devices.len() as u64).max(1);
-    let device = u32::try_from(tick % devices).unwrap_or(0);
     let token = Some(TokenId { number: 1 });
     Ok(Some((
-        Query::Device(device, DeviceQuery::Write { block, token }),
+        Query::Device(device_of(config, tick), DeviceQuery::Write { block, token }),
         Answer::Device(DeviceAnswer::Written {
             mtime: reading_at(tick),
         }),
     )))
 }
 
-fn swept() -> (Query, Answer) {
+fn trashed(alloc: Global, config: &Config, number: u64) -> Result<Option<(Query, Answer)>> {
+    let Some(block) = block_of(alloc, number)? else {
+        return Ok(None);
+    };
+    Ok(Some((
+        Query::Device(device_of(config, number), DeviceQuery::TrashNext),
+        Answer::Device(DeviceAnswer::Trashed {
+            digest: block.digest(),
+            deadline: u64::MAX,
+            round: 1,
+        }),
+    )))
+}
+
+// The collection that an event saves, updates or reads.
+fn number_at(tick: u64) -> u64 {
+    tick / 6 + 1
+}
+
+fn swept_or_read(alloc: Global, tick: u64) -> Result<Option<(Query, Answer)>> {
+    if tick % 2 == 1 {
+        return read(alloc, tick);
+    }
     let answer = TableAnswer::Swept {
         versions: 0,
         collections: 0,
     };
-    (Query::Table(TableQuery::Sweep), Answer::Table(answer))
+    Ok(Some((Query::Table(TableQuery::Sweep), Answer::Table(answer))))
 }
 
-// The collection that an event saves.
-fn number_at(tick: u64) -> u64 {
-    (tick / 3) % 100
-}
-
-fn save_query(tick: u64, request: SaveRequest) -> TableQuery {
-    if tick < 300 {
-        return TableQuery::Save { request };
-    }
-    TableQuery::Update {
+// What the event before saved.
+fn read(alloc: Global, tick: u64) -> Result<Option<(Query, Answer)>> {
+    let Some(block) = block_of(alloc, tick.saturating_sub(2))? else {
+        return Ok(None);
+    };
+    let query = TableQuery::Read {
+        token: Bytes::of(Vec::from_slice(alloc, b"alice")?),
         collection: number_at(tick),
-        preserve: tick % 2 == 0,
-        request,
-    }
+        version: None,
+    };
+    let answer = TableAnswer::Row {
+        number: number_at(tick),
+        version: 1,
+        expiry: u32::try_from(reading_at(tick) / SECOND + 100).ok(),
+        want: 1,
+        trash_at: None,
+        text: text_of(alloc, &block.digest())?,
+    };
+    Ok(Some((Query::Table(query), Answer::Table(answer))))
 }
 
-fn save_answer(tick: u64) -> TableAnswer {
-    let number = number_at(tick);
-    let portable = Portable {
+fn portable() -> Portable {
+    Portable {
         digest: Digest::of_md5([0; 16]),
         size: 0,
-    };
-    if tick < 300 {
-        return TableAnswer::Saved {
-            number,
-            version: 1,
-            portable,
-        };
-    }
-    TableAnswer::Updated {
-        number,
-        version: 2,
-        portable,
     }
 }
 
+// The block that was put before, as a new collection, or as a new version of the one that was saved before.
 fn saved(alloc: Global, tick: u64) -> Result<Option<(Query, Answer)>> {
     let Some(block) = block_of(alloc, tick.saturating_sub(1))? else {
         return Ok(None);
     };
     let request = request_of(alloc, &block.digest())?;
-    Ok(Some((
-        Query::Table(save_query(tick, request)),
-        Answer::Table(save_answer(tick)),
-    )))
+    let number = number_at(tick);
+    let portable = portable();
+    if tick % 6 == 2 {
+        let answer = TableAnswer::Saved {
+            number,
+            version: 1,
+            portable,
+        };
+        return Ok(Some((
+            Query::Table(TableQuery::Save { request }),
+            Answer::Table(answer),
+        )));
+    }
+    let query = TableQuery::Update {
+        collection: number,
+        preserve: tick % 5 == 0,
+        request,
+    };
+    let answer = TableAnswer::Updated {
+        number,
+        version: 2,
+        portable,
+    };
+    Ok(Some((Query::Table(query), Answer::Table(answer))))
 }
 
-fn request_of(alloc: Global, digest: &Digest) -> Result<SaveRequest> {
+fn text_of(alloc: Global, digest: &Digest) -> Result<Bytes> {
     let mut text = Vec::from_slice(alloc, b". ")?;
     text.extend_from_slice(&digest.write())?;
     text.extend_from_slice(b"+9 0:9:f\n")?;
+    Ok(Bytes::of(text))
+}
+
+fn request_of(alloc: Global, digest: &Digest) -> Result<SaveRequest> {
     Ok(SaveRequest {
         token: Bytes::of(Vec::from_slice(alloc, b"alice")?),
-        text: Bytes::of(text),
+        text: text_of(alloc, digest)?,
         want: 1,
         portable: None,
     })

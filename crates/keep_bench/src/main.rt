@@ -4,6 +4,7 @@
 mod files;
 mod histories;
 mod plans;
+mod scripts;
 mod tables;
 mod wire;
 
@@ -262,7 +263,9 @@ fn main(rt: HostRuntime) -> Result<()> {
             "histories" => histories::ask(&rt, &input)?,
             "gather" => plans::plan(&rt, &input, false)?,
             "plan" => plans::plan(&rt, &input, true)?,
+            "script" => scripts::read_script(&rt, &input)?,
             "table" => tables::time_table(&rt, &input)?,
+            "versions" => tables::time_versions(&rt, &input)?,
             _ => println!(rt; "no task {task}")?,
         }
     }

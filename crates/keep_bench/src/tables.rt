@@ -16,6 +16,17 @@ const RULES: TableRules = TableRules {
     skew: 5,
 };
 
+// The same for a collection of many versions.
+const MANY_VERSIONS: TableRules = TableRules {
+    tokens: 1,
+    versions: u32::MAX,
+    ttl: 1_209_600,
+    skew: 5,
+};
+
+// How many updates of one collection are timed.
+const UPDATES: u64 = 1000;
+
 // The system's token, so that each collection can be asked by it.
 const TOKEN: TokenId = TokenId { number: 0 };
 
@@ -173,4 +184,95 @@ pub fn time_table(rt: &HostRuntime, input: &[u8]) -> Result<()> {
     time_calls(rt, &mut table, "trash-again", Kind::Trash, count)?;
     time_sweep(rt, &mut table, "sweep-collections")?;
     Ok(())
+}
+
+// One update of the first collection; whether it was done.
+fn is_updated(alloc: Global, table: &mut Table, is_late: bool, preserve: bool) -> bool {
+    if !table.has_room() {
+        return false;
+    }
+    let Ok(record) = made(alloc, 1, 2) else {
+        return false;
+    };
+    let reading = if is_late { LATER } else { READING };
+    matches!(
+        table.update(reading, TOKEN, 1, record, preserve),
+        Ok(TableAnswer::Updated { .. })
+    )
+}
+
+// So many updates of the first collection; how many were done.
+fn updates(alloc: Global, table: &mut Table, count: u64, preserve: bool) -> u64 {
+    let mut done: u64 = 0;
+    for _ in 0..count {
+        if is_updated(alloc, table, false, preserve) {
+            done = done.saturating_add(1);
+        }
+    }
+    done
+}
+
+// Prints how many calls were done, and the nanoseconds of each.
+fn print_each(rt: &HostRuntime, name: &str, done: u64, nanos: u128) -> Result<()> {
+    let each = nanos.checked_div(u128::from(done)).unwrap_or(0);
+    println!(rt; "{name} {done} {each}")?;
+    Ok(())
+}
+
+// Updates of a collection that has so many versions already, none of them due.
+fn time_updates(
+    rt: &HostRuntime,
+    table: &mut Table,
+    name: &str,
+    count: u64,
+    preserve: bool,
+) -> Result<()> {
+    let _ = is_done(rt.alloc(), table, Kind::Save, 1);
+    let _ = updates(rt.alloc(), table, count, preserve);
+    let start = Instant::now(rt)?;
+    let done = updates(rt.alloc(), table, UPDATES, preserve);
+    print_each(rt, name, done, start.elapsed(rt)?.as_nanos())
+}
+
+// Reads of the newest version but the current one.
+fn time_reads(rt: &HostRuntime, table: &mut Table, version: u64) -> Result<()> {
+    let start = Instant::now(rt)?;
+    let mut done: u64 = 0;
+    for _ in 0..UPDATES {
+        if matches!(
+            table.read(READING, TOKEN, 1, Some(version)),
+            Ok(TableAnswer::Row { .. })
+        ) {
+            done = done.saturating_add(1);
+        }
+    }
+    print_each(rt, "read-version", done, start.elapsed(rt)?.as_nanos())
+}
+
+// One update that drops all versions that were kept; the nanoseconds of each that goes.
+fn time_drop(rt: &HostRuntime, table: &mut Table, count: u64) -> Result<()> {
+    let start = Instant::now(rt)?;
+    let done = is_updated(rt.alloc(), table, true, false);
+    let nanos = start.elapsed(rt)?.as_nanos();
+    let dropped = if done {
+        count.saturating_add(UPDATES)
+    } else {
+        0
+    };
+    print_each(rt, "drop-due", dropped, nanos)
+}
+
+/// Times updates of one collection that has as many versions as the input says: preserved ones, and then those that are kept until a reading; reads of the newest that is preserved; and one update that drops all that are kept.
+pub fn time_versions(rt: &HostRuntime, input: &[u8]) -> Result<()> {
+    let count = from_utf8(input)
+        .unwrap_or("")
+        .trim()
+        .parse::<u64>()
+        .unwrap_or(0);
+    let mut table = Table::new(rt.alloc(), MANY_VERSIONS);
+    time_updates(rt, &mut table, "preserved", count, true)?;
+    time_reads(rt, &mut table, count)?;
+    let mut table = Table::new(rt.alloc(), MANY_VERSIONS);
+    time_updates(rt, &mut table, "kept", count, false)?;
+    time_drop(rt, &mut table, count)
 }
