@@ -13,16 +13,16 @@ use Rattle.keep_event.specs.declared.table.Standing.{Standing}
 use Rattle.keep_event.specs.declared.table.Standing.TheVariants.{Current, Kept, Preserved}
 use Rattle.keep_event.specs.declared.table.Record.{Record}
 use Rattle.keep_table.specs.Contents.{RisesAbove}
-use Rattle.keep_table.specs.Maps.{kept_cmp, is_kept_until, is_kept_as, is_kept_at, is_due_at, AreCurrentAt, marked, standing_as, revisions_of}
+use Rattle.keep_table.specs.Maps.{triple_cmp, is_kept_until, is_kept_as, is_kept_at, is_due_at, AreCurrentAt, marked, standing_as, revisions_of}
 use Rattle.keep_table.proofs.Keyed.{at-eq, without-none, change-none}
-use Rattle.keep_table.proofs.Places.{eq-then}
+use Rattle.keep_table.proofs.Triples.{eq-then}
 
 -- ---- the order of the set
 
 swap-and : (a b c d e f : ℕ) → ((nat_eq a b && nat_eq c d) && nat_eq e f) ≡ (nat_eq b a && nat_eq f e && nat_eq d c)
 swap-and a b c d e f = grind (arith, nat_tests)
 
-pub at-kept : (c u w n t v : ℕ) → is_at (kept_cmp (c, u, w)) (n, t, v) ≡ is_kept_as c w (Kept u) n t v
+pub at-kept : (c u w n t v : ℕ) → is_at (triple_cmp (c, u, w)) (n, t, v) ≡ is_kept_as c w (Kept u) n t v
 at-kept c u w n t v =
     rw (eq-then (ordering_then (nat_cmp c n) (nat_cmp u t)) (nat_cmp w v), eq-then (nat_cmp c n) (nat_cmp u t), at-eq c n, at-eq u t, at-eq w v) (swap-and n c t u v w)
 
@@ -50,10 +50,10 @@ kept-same now true true is was e ok h = absurd (both_ways true ok refl)
 kept-same now false true is was e ok h = absurd (both_ways true ok refl)
 
 -- the triples of a collection whose times are below a reading
-pub kept-from : (n t v : ℕ) → is_gt (kept_cmp (n, 0, 0) (n, t, v)) ≡ false
+pub kept-from : (n t v : ℕ) → is_gt (triple_cmp (n, 0, 0) (n, t, v)) ≡ false
 kept-from n t v = grind (arith, nat_tests)
 
-pub kept-upto : (n t v reading : ℕ) → t < reading → kept_cmp (n, t, v) (n, reading, 0) ≡ Less
+pub kept-upto : (n t v reading : ℕ) → t < reading → triple_cmp (n, t, v) (n, reading, 0) ≡ Less
 kept-upto n t v reading lt = grind (arith, nat_tests)
 
 -- ---- records

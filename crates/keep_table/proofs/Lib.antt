@@ -3,13 +3,14 @@ pub mod Due
 pub mod Few
 pub mod Held
 pub mod Keyed
+pub mod Later
 pub mod Mentions
 pub mod Newest
 pub mod Orderly
-pub mod Places
 pub mod ReadCases
 pub mod Renewals
 pub mod Steps
+pub mod Triples
 pub mod Updates
 pub mod Versions
 pub mod Walks

@@ -27,7 +27,7 @@ use Rattle.keep_table.specs.Maps.{marked, standing_as, revisions_of}
 use Rattle.keep_table.specs.Wants.{want_cmp, counted, is_mention, mentions, mentioned, AreCounts}
 use Rattle.keep_table.proofs.Counts.{count-cons, bit}
 use Rattle.keep_table.proofs.Keyed.{at-eq, without-none}
-use Rattle.keep_table.proofs.Places.{eq-then}
+use Rattle.keep_table.proofs.Triples.{eq-then}
 
 abbrev Entries : Type 0
 Entries = List ((List ℕ × ℕ) × ℕ)

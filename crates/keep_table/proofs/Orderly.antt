@@ -25,7 +25,7 @@ more-drawn n m n' m' (r ∷ rs) le le' h = (
   more-drawn n m n' m' rs le le' h.1,
 )
 
-all-push : {X : Type 0} (P : X → Type 0) (xs : List X) (x : X) → AllByRecursion P xs → P x → AllByRecursion P (xs ++ x ∷ [])
+pub all-push : {X : Type 0} (P : X → Type 0) (xs : List X) (x : X) → AllByRecursion P xs → P x → AllByRecursion P (xs ++ x ∷ [])
 all-push P [] x h p = (p, tt)
 all-push P (y ∷ ys) x h p = (h.0, all-push P ys x h.1 p)
 
@@ -33,7 +33,7 @@ all-kept : {X : Type 0} (P : X → Type 0) (b : Bool) (x : X) (xs : List X) → 
 all-kept P true x xs p h = (p, h)
 all-kept P false x xs p h = h
 
-all-filter : {X : Type 0} (P : X → Type 0) (q : X → Bool) (xs : List X) → AllByRecursion P xs → AllByRecursion P (filter q xs)
+pub all-filter : {X : Type 0} (P : X → Type 0) (q : X → Bool) (xs : List X) → AllByRecursion P xs → AllByRecursion P (filter q xs)
 all-filter P q [] h = tt
 all-filter P q (x ∷ xs) h = all-kept P (q x) x (filter q xs) h.0 (all-filter P q xs h.1)
 
@@ -87,7 +87,7 @@ current-not-due reading (Kept until) e = absurd (cc)
 current-not-due reading Preserved e = refl
 
 -- a collection of the next number has no record
-none-of-next : (n m number : ℕ) (rs : List Record) → n < number → AllByRecursion (IsDrawn n m) rs → list_any (is_of number) rs ≡ false
+pub none-of-next : (n m number : ℕ) (rs : List Record) → n < number → AllByRecursion (IsDrawn n m) rs → list_any (is_of number) rs ≡ false
 none-of-next n m number [] lt h = refl
 none-of-next n m number (r ∷ rs) lt h = rw (ne_eqb r.collection number (λ e. omega (arith, h.0.collection))) (none-of-next n m number rs lt h.1)
 
@@ -220,10 +220,6 @@ pub updatable-drawn : (n reading : ℕ) (token : TokenId) (number : ℕ) (s : St
 updatable-drawn n reading token number s x h e = found-of n reading token number s x (collection_of number s) refl h e
 
 -- ---- numbers that are drawn next
-
-pub collections-below : (n : ℕ) (xs : List Collection) → AreDrawn n xs → AllByRecursion (λ x. x.number < n + 1) xs
-collections-below n [] h = tt
-collections-below n (x ∷ xs) h = (omega (arith, h.0), collections-below n xs h.1)
 
 pub records-below : (n m : ℕ) (rs : List Record) → AllByRecursion (IsDrawn n m) rs → AllByRecursion (λ r. r.revision < m + 1) rs
 records-below n m [] h = tt

@@ -9,18 +9,6 @@ use Rattle.keep_table.proofs.Keyed.{without-none}
 
 -- ---- lists
 
-abbrev pub first : {X : Type 0} → List X → Option X
-first [] = None
-first (x ∷ xs) = Some x
-
-first-cond : {X : Type 0} (b : Bool) (x : X) (xs : List X) (found : Option X) → found ≡ first xs → cond b (Some x) found ≡ first (cond b (x ∷ xs) xs)
-first-cond true x xs found e = refl
-first-cond false x xs found e = e
-
-pub find-first : {X : Type 0} (p : X → Bool) (xs : List X) → find p xs ≡ first (filter p xs)
-find-first p [] = refl
-find-first p (x ∷ xs) = first-cond (p x) x (filter p xs) (find p xs) (find-first p xs)
-
 pub filter-congr : {X : Type 0} (p q : X → Bool) (xs : List X) → ((x : X) → p x ≡ q x) → filter p xs ≡ filter q xs
 filter-congr p q [] h = refl
 filter-congr p q (x ∷ xs) h = rw (h x, filter-congr p q xs h) refl
@@ -196,9 +184,6 @@ pub keeps-passed : {X : Type 0} (key : X → ℕ) (b bad : X → Bool) (a low : 
     filter (keeps key bad a) rs ≡ filter (keeps key bad (key row)) rs
 keeps-passed key b bad a low [] row wider h good e = absurd (cc)
 keeps-passed key b bad a low (r ∷ rs) row wider h good e = pass-cond key b bad (next_by key b a r) a r row rs wider refl h.1 good (λ e. keeps-passed key b bad a (key r) rs row wider h.1 good e) e
-
-pub found-lt : {X : Type 0} (key : X → ℕ) (b : X → Bool) (a : ℕ) (rs : List X) (row : X) → find (next_by key b a) rs ≡ Some row → a < (key row)
-found-lt key b a rs row e = ltb-true a (key row) (and_parts (b row) (nat_lt a (key row)) (found-passes (next_by key b a) rs row e)).1
 
 -- the next one of what a walk has left is the next one of all
 pub next-of-all : {X : Type 0} (key : X → ℕ) (b bad : X → Bool) (a : ℕ) (rs ks : List X) (o : Option X) → ks ≡ filter (keeps key bad a) rs → o ≡ find (next_by key b a) ks → find (next_by key b a) rs ≡ o

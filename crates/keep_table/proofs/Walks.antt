@@ -1,23 +1,20 @@
 -- A walk over records in the order of their revisions.
-use Rattle.std.proofs.Common.{◌≡◌, max, ◌<◌, ◌+◌, ◌&&◌, ◌||◌, ℕ, List, [], ◌∷◌, Bool, true, false, map, filter, length, nat_eq, Option, Some, None, refl, ap, sym, ◌∙◌, ◌++◌, append_assoc, append-nil, length-append, arith}
+use Rattle.std.proofs.Common.{◌≡◌, ◌<◌, ◌+◌, ℕ, List, [], ◌∷◌, Bool, true, false, map, filter, length, Some, None, refl, ap, sym, ◌∙◌, ◌++◌, append_assoc, append-nil, length-append, arith}
 use Rattle.std.specs.Prelude.{count_by}
 use Rattle.std.specs.List.{find}
-use Rattle.std.proofs.lemmas.Bool.{and_parts, cond-true, cond-false}
+use Rattle.std.proofs.lemmas.Bool.{cond-true, cond-false}
 use Rattle.std.proofs.lemmas.List.Sums.{length-filter}
-use Rattle.keep_event.specs.Table.{is_of, is_readable, is_current, is_preserved, row_of, rows_above}
+use Rattle.keep_event.specs.Table.{row_of, rows_above}
 use Rattle.keep_event.specs.declared.table.Record.{Record}
 use Rattle.keep_event.specs.declared.table.ScanRow.{ScanRow}
 use Rattle.keep_table.specs.Contents.{RisesAbove}
 use Rattle.keep_table.specs.Maps.{is_next, any_record, revisions_of}
-use Rattle.keep_table.proofs.Steps.{first, find-first, next-more, next-none, later-all}
+use Rattle.keep_table.proofs.Steps.{next-more, next-none, later-all}
 
 abbrev pub revision : Record → ℕ
 revision r = r.revision
 
 -- ---- the steps of a walk
-
-pub and-first : (x y : Bool) → (x && y) ≡ true → x ≡ true
-and-first x y e = (and_parts x y e).0
 
 -- one more is counted
 pub counted : (b p : Record → Bool) (a n total : ℕ) (rs : List Record) (row : Record) → ((r : Record) → p r ≡ true → b r ≡ true) → RisesAbove 0 (revisions_of rs) → find (is_next b a) rs ≡ Some row → p row ≡ true →
@@ -36,21 +33,6 @@ counted-all b p a n rs wider h e sum =
     let started = ap length (later-all revision p 0 0 rs (omega arith) h) in
     let all = length-filter p rs in
     omega arith
-
--- the first that passes is found
-pub found-first : (b p : Record → Bool) (a : ℕ) (rs : List Record) (row : Record) → ((r : Record) → p r ≡ true → b r ≡ true) → RisesAbove 0 (revisions_of rs) → find (is_next b a) rs ≡ Some row → p row ≡ true →
-    filter (is_next p a) rs ≡ filter (is_next p 0) rs → Some row ≡ find p rs
-found-first b p a rs row wider h e pass same =
-    let more : filter (is_next p a) rs ≡ row ∷ filter (is_next p row.revision) rs = next-more revision b p a 0 rs row wider h e ∙ cond-true (p row) _ _ pass in
-    sym (find-first p rs ∙ ap first (sym (later-all revision p 0 0 rs (omega arith) h) ∙ sym same ∙ more))
-
-pub found-none : (b p : Record → Bool) (a : ℕ) (rs : List Record) → ((r : Record) → p r ≡ true → b r ≡ true) → RisesAbove 0 (revisions_of rs) → find (is_next b a) rs ≡ None → filter (is_next p a) rs ≡ filter (is_next p 0) rs → None ≡ find p rs
-found-none b p a rs wider h e same = sym (find-first p rs ∙ ap first (sym (later-all revision p 0 0 rs (omega arith) h) ∙ sym same ∙ next-none revision b p a rs wider e))
-
--- what can be read is of the collection
-pub readable-of : (number : ℕ) (version : Option ℕ) (r : Record) → is_readable number version r ≡ true → is_of number r ≡ true
-readable-of number None r e = and-first (is_of number r) (is_current r.standing) e
-readable-of number (Some v) r e = and-first (is_of number r) (nat_eq r.version v) (and-first (is_of number r && nat_eq r.version v) (is_current r.standing || is_preserved r.standing) e)
 
 -- ---- scans
 
@@ -73,18 +55,3 @@ rows-step front back all x rest whole e = rw append_assoc (ap (λ ys. front ++ y
 
 pub rows-all : (front back all : List ScanRow) → front ++ back ≡ all → back ≡ [] → front ≡ all
 rows-all front back all whole e = sym (append-nil front) ∙ ap (λ ys. front ++ ys) (sym e) ∙ whole
-
-pub rows-of-all : (rs : List Record) → RisesAbove 0 (revisions_of rs) → rows_above 0 rs ≡ map row_of rs
-rows-of-all rs h = ap (λ xs. map row_of xs) (later-all revision any_record 0 0 rs (omega arith) h ∙ all-pass rs)
-  where
-    all-pass : (rs : List Record) → filter any_record rs ≡ rs
-    all-pass [] = refl
-    all-pass (r ∷ rs) = ap (λ xs. r ∷ xs) (all-pass rs)
-
--- ---- the greatest want
-
-pub most-next : (most here rest left all : ℕ) → max most left ≡ all → left ≡ max here rest → max (max here most) rest ≡ all
-most-next most here rest left all e is = omega arith
-
-pub most-end : (most left all whole : ℕ) → max most left ≡ all → left ≡ 0 → all ≡ whole → most ≡ whole
-most-end most left all whole e none is = omega arith

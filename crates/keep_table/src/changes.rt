@@ -1,11 +1,11 @@
 // What the calls of the table do to its records and collections.
-ghost use Rattle.std.specs.Prelude.{◌≡◌, ◌==◌, ◌<◌, ◌≤◌, ◌*◌, ◌/◌, ◌^◌, ◌++◌, ◌∷◌, [], length, take, nat_lt, nat_le, Option, option_map, IfOk, map, Some, None, count_by, filter, not, ◌&&◌, true, false, is_ok, if◌then◌else◌};
+ghost use Rattle.std.specs.Prelude.{◌≡◌, ◌==◌, ◌<◌, ◌≤◌, ◌+◌, ◌*◌, ◌/◌, ◌^◌, ◌++◌, ◌∷◌, [], length, take, nat_lt, nat_le, Option, option_map, IfOk, map, Some, None, count_by, filter, not, ◌&&◌, ◌||◌, true, false, is_ok, if◌then◌else◌};
 ghost use Rattle.std.specs.List.{find, AllByRecursion};
 ghost use Rattle.std.specs.Option.{option_map_or};
 ghost use Rattle.keep_event.specs.Table as machine;
 ghost use Rattle.keep_spec.specs.Times.{IsReading};
 ghost use Rattle.keep_table.specs.Contents.{RisesAbove, AreSuperseded, AreFew};
-ghost use Rattle.keep_table.specs.Maps.{revisions_of};
+ghost use Rattle.keep_table.specs.Maps.{revisions_of, AreBefore};
 
 use crate::collections::Collections;
 use crate::records::Records;
@@ -33,16 +33,6 @@ pub(crate) fn new_collection(number: u64, owner: TokenId) -> Collection
         owner,
         trash_at: None,
         delete_at: None,
-    }
-}
-
-pub(crate) fn is_current(standing: &Standing) -> bool
-    ensures { result ≡ machine.is_current standing.now }
-{
-    match standing {
-        Standing::Current => true,
-        Standing::Kept { until: _ } => false,
-        Standing::Preserved => false,
     }
 }
 
@@ -88,7 +78,8 @@ pub(crate) fn is_owner(token: TokenId, collection: &Collection) -> bool
 /// Returns the version of a collection's current record, or 0 where it has none.
 pub(crate) fn current_version(records: &Records, number: u64) -> u64
     requires { AreSuperseded records.now }
-    ensures { result ≡ option_map_or (λ r. r.version) (find (machine.is_current_of number) records.now) 0 }
+    ensures version { result ≡ option_map_or (λ r. r.version) (find (machine.is_current_of number) records.now) 0 }
+    ensures greatest { AreBefore number (result + 1) records.now }
 {
     match records.current_of(number) {
         Some(row) => row.version,
@@ -117,6 +108,7 @@ pub(crate) fn renew(
     requires positive { 0 < row.revision }
     requires newest { AllByRecursion (λ r. r.revision < row.revision) records.old }
     requires rising { RisesAbove 0 (revisions_of records.old) }
+    requires versions { AreBefore row.collection row.version records.old }
     requires current { machine.is_current row.standing ≡ true }
     requires superseded { AreSuperseded records.old }
     requires later { machine.is_due reading standing ≡ false }
@@ -234,24 +226,12 @@ pub(crate) fn kept_until(rules: &TableRules, reading: u64, preserve: bool) -> St
     }
 }
 
-fn is_readable(number: u64, version: Option<u64>, row: &Record) -> bool
-    ensures { result ≡ machine.is_readable number version row.now }
-{
-    match version {
-        None => row.collection == number && is_current(&row.standing),
-        Some(version) => {
-            row.collection == number
-                && row.version == version
-                && (is_current(&row.standing) || is_preserved(&row.standing))
-        }
-    }
-}
-
-fn is_preserved(standing: &Standing) -> bool
-    ensures { result ≡ machine.is_preserved standing.now }
+// Whether a version of this standing can be read by its number.
+fn is_readable(standing: &Standing) -> bool
+    ensures { result ≡ (machine.is_current standing.now || machine.is_preserved standing.now) }
 {
     match standing {
-        Standing::Current => false,
+        Standing::Current => true,
         Standing::Kept { until: _ } => false,
         Standing::Preserved => true,
     }
@@ -264,22 +244,21 @@ pub(crate) fn version_of(records: &Records, number: u64, version: Option<u64>) -
 {
     match version {
         None => records.current_of(number),
-        Some(_) => readable_of(records, number, version),
+        Some(version) => readable_at(records, number, version),
     }
 }
 
-// The same, by a walk over the collection's records.
-fn readable_of(records: &Records, number: u64, version: Option<u64>) -> Option<&Record>
-    ensures { option_map (λ r. r.now) result ≡ find (machine.is_readable number version) records.now }
+fn readable_at(records: &Records, number: u64, version: u64) -> Option<&Record>
+    ensures { option_map (λ r. r.now) result ≡ find (machine.is_readable number (Some version)) records.now }
 {
-    let mut after = 0;
-    while let Some(row) = records.next_of(number, after) {
-        if is_readable(number, version, row) {
-            return Some(row);
-        }
-        after = row.revision;
+    let Some(row) = records.version_at(number, version) else {
+        return None;
+    };
+    if is_readable(&row.standing) {
+        Some(row)
+    } else {
+        None
     }
-    None
 }
 
 // A reading in whole seconds.

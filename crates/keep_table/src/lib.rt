@@ -4,6 +4,7 @@
 mod changes;
 mod collections;
 mod kept;
+mod places;
 mod records;
 mod sizes;
 mod table;

@@ -1,18 +1,19 @@
-// The records of a table: an ordered map by revision, and beside it the revisions of each collection, how many they are, those that are kept for a time, and what is wanted of each digest.
+// The records of a table: an ordered map by revision, and beside it the versions of each collection with their revisions, how many they are, those that are kept for a time, and what is wanted of each digest.
 ghost use Rattle.std.specs.Prelude.{◌≡◌, ◌==◌, ◌<◌, ◌^◌, ◌++◌, ◌∷◌, [], true, not, map, filter, length, count_by, option_map, is_ok, is_some, IfSome, IsTrue, if◌then◌else◌};
 ghost use Rattle.std.specs.List.{find, list_any, AllByRecursion};
 ghost use Rattle.keep_event.specs.Table.{is_of, is_current, is_current_of, is_due_of, row_of};
 ghost use Rattle.keep_event.specs.Plan.{wanted_in};
 ghost use Rattle.keep_table.specs.Contents.{RisesAbove, AreSuperseded, is_version_of};
-ghost use Rattle.keep_table.specs.Maps.{is_next, any_record, marked, revisions_of, is_due_at, AreCurrentAt};
+ghost use Rattle.keep_table.specs.Maps.{is_next, is_at_version, any_record, marked, revisions_of, is_due_at, AreBefore, AreCurrentAt, AreVersioned};
 
 use crate::kept::Kept;
+use crate::places::Places;
 use crate::sizes::Sizes;
 use crate::wants::Wants;
 use keep_event::{Record, Standing};
 use keep_spec::{Digest, NoMemory};
 use std::alloc::Global;
-use std::collections::{BTreeMap, BTreeSet};
+use std::collections::BTreeMap;
 use std::marker::Model;
 use std::ops::Bound;
 
@@ -21,8 +22,8 @@ use std::ops::Bound;
 pub(crate) struct Records {
     // by revision
     rows: BTreeMap<u64, Record>,
-    // the number of each record's collection, with its revision
-    places: BTreeSet<(u64, u64)>,
+    // the number of each record's collection, with its version and its revision
+    places: Places,
     // how many records each collection has: its versions and its current one
     sizes: Sizes,
     // the versions that are kept for a time
@@ -44,14 +45,6 @@ impl Model for Records {
     ghost invariant = { λ t. AreIndexed t.rows.entries t.places t.sizes t.kept t.wants };
 }
 
-// A record's place: the number of its collection, and its revision.
-fn place_of(number: u64, revision: u64) -> (u64, u64)
-    ensures place { result ≡ (number, revision) }
-    ensures bound { result.1 < 2 ^ 64 }
-{
-    (number, revision)
-}
-
 impl Records {
     /// No records. Takes no memory.
     pub(crate) fn new(alloc: Global) -> Records
@@ -59,7 +52,7 @@ impl Records {
     {
         Records {
             rows: BTreeMap::new(alloc),
-            places: BTreeSet::new(alloc),
+            places: Places::new(alloc),
             sizes: Sizes::new(alloc),
             kept: Kept::new(alloc),
             wants: Wants::new(alloc),
@@ -81,42 +74,27 @@ impl Records {
         }
     }
 
-    /// Returns the first record of a collection whose revision is above `after`.
-    pub(crate) fn next_of(&self, number: u64, after: u64) -> Option<&Record>
-        ensures next { option_map (λ r. r.now) result ≡ find (is_next (is_of number) after) self.now }
-        ensures rising { RisesAbove 0 (revisions_of self.now) }
-        ensures few { length self.now < 2 ^ 63 }
+    /// Returns the record of a version of a collection, whatever its standing.
+    pub(crate) fn version_at(&self, number: u64, version: u64) -> Option<&Record>
+        ensures found { option_map (λ r. r.now) result ≡ find (is_at_version number version) self.now }
+        ensures versioned { AreVersioned self.now }
     {
-        // no map has more entries
-        let _ = self.rows.len();
-        let mut later = self
-            .places
-            .range((Bound::Excluded((number, after)), Bound::Unbounded));
-        let Some(place) = later.next() else {
-            return None;
-        };
-        let (of, revision) = *place;
-        if of == number {
-            self.rows.get(&revision)
-        } else {
-            None
+        match self.places.at(number, version) {
+            Some(revision) => self.rows.get(&revision),
+            None => None,
         }
     }
 
     /// Returns the current record of a collection, which is its newest.
     pub(crate) fn current_of(&self, number: u64) -> Option<&Record>
         requires { AreSuperseded self.now }
-        ensures { option_map (λ r. r.now) result ≡ find (is_current_of number) self.now }
+        ensures found { option_map (λ r. r.now) result ≡ find (is_current_of number) self.now }
+        ensures versioned { AreVersioned self.now }
     {
-        let mut places = self.places.range((
-            Bound::Included((number, 0)),
-            Bound::Included((number, u64::MAX)),
-        ));
-        let Some(place) = places.next_back() else {
-            return None;
-        };
-        let (_, revision) = *place;
-        self.rows.get(&revision)
+        match self.places.newest(number) {
+            Some((_, revision)) => self.rows.get(&revision),
+            None => None,
+        }
     }
 
     /// Returns how many versions a collection has besides its current record.
@@ -146,19 +124,22 @@ impl Records {
         self.wants.greatest(digest)
     }
 
-    /// Adds a current record whose revision is above all others. Where memory is refused, nothing changes.
+    /// Adds a current record whose revision is above all others, and whose version above those of its collection. Where memory is refused, nothing changes.
     pub(crate) fn add(&mut self, row: Record) -> Result<(), NoMemory>
         requires positive { 0 < row.revision }
         requires newest { AllByRecursion (λ r. r.revision < row.revision) self.old }
+        requires later { AreBefore row.collection row.version self.old }
         requires current { is_current row.standing ≡ true }
         ensures { self.new ≡ (if is_ok result then self.old ++ row ∷ [] else self.old) }
     {
-        let place = place_of(row.collection, row.revision);
-        let Ok(_) = self.places.insert(place) else {
+        let number = row.collection;
+        let version = row.version;
+        let revision = row.revision;
+        if self.places.add(number, version, revision).is_err() {
             return Err(NoMemory);
-        };
-        if self.sizes.raise(row.collection).is_err() {
-            self.places.remove(&place);
+        }
+        if self.sizes.raise(number).is_err() {
+            self.places.remove(number, version, revision);
             return Err(NoMemory);
         }
         if self
@@ -166,17 +147,17 @@ impl Records {
             .add(row.made.named.as_slice(), row.made.want)
             .is_err()
         {
-            self.sizes.lower(row.collection);
-            self.places.remove(&place);
+            self.sizes.lower(number);
+            self.places.remove(number, version, revision);
             return Err(NoMemory);
         }
-        let Err(refused) = self.rows.insert(row.revision, row) else {
+        let Err(refused) = self.rows.insert(revision, row) else {
             return Ok(());
         };
         let (_, back) = refused.value;
         self.wants.take(back.made.named.as_slice(), back.made.want);
-        self.sizes.lower(back.collection);
-        self.places.remove(&place);
+        self.sizes.lower(number);
+        self.places.remove(number, version, revision);
         Err(NoMemory)
     }
 
@@ -188,7 +169,7 @@ impl Records {
             return;
         };
         let number = row.collection;
-        self.places.remove(&(number, revision));
+        self.places.remove(number, row.version, revision);
         self.sizes.lower(number);
         self.kept.remove(number, revision, row.standing);
         self.wants.take(row.made.named.as_slice(), row.made.want);

@@ -1,4 +1,4 @@
-use Rattle.std.proofs.Common.{◌≡◌, ◌∙◌, ap, not, is_ok, sym, refl, Some, None, ◌^◌}
+use Rattle.std.proofs.Common.{◌≡◌, ◌∙◌, ap, not, is_ok, sym, refl, Some, None}
 use Rattle.std.specs.Map.{values_of}
 use Rattle.std.specs.Option.{option_copied_mut}
 use Rattle.keep_event.specs.declared.table.Record.{Record}
@@ -6,7 +6,8 @@ use Rattle.keep_table.specs.Maps.{standing_as}
 use Rattle.keep_table.proofs.Due.{kept-marked, kept-more, kept-same}
 use Rattle.keep_table.proofs.Held.{size-marked}
 use Rattle.keep_table.proofs.Keyed.{rewritten, put-back, keyed-again, values-are, keys-changed, change-absent, found}
-use Rattle.keep_table.proofs.Places.{place-marked, below-marked}
+use Rattle.keep_table.proofs.Later.{versioned-marked}
+use Rattle.keep_table.proofs.Triples.{place-marked, small-marked}
 use Rattle.keep_table.proofs.Mentions.{mentioned-marked}
 use Rattle.keep_table.proofs.records.Records.mark.Goals as goal
 
@@ -23,7 +24,8 @@ invariant_of-self-then-is_err c =
     rw same (record {
       by_revision = c.self.invariant.by_revision;
       rising = c.self.invariant.rising;
-      drawn = c.self.invariant.drawn;
+      versioned = c.self.invariant.versioned;
+      small = c.self.invariant.small;
       of_each = c.self.invariant.of_each;
       of_sizes = c.self.invariant.of_sizes;
       of_kept = λ n t v. kept-same _ _ (is_ok c.add.result) _ _ (c.add.ensures n t v) (c.is_err.ensures.negation ∙ ap not c.if-is_err.true) (c.self.invariant.of_kept n t v);
@@ -46,8 +48,9 @@ invariant_of-self-2 c =
     record {
       by_revision = keyed-again (λ (r : Record). r.revision) _ _ e;
       rising = rw (vs, keys-changed (λ (r : Record). r.revision) c.args.revision (standing_as c.args.standing) (values_of c.self.inside.rows.entries) (λ x. refl)) c.self.invariant.rising;
-      drawn = rw vs (below-marked (2 ^ 64) c.args.revision c.args.standing (values_of c.self.inside.rows.entries) c.self.invariant.drawn);
-      of_each = λ n v. rw (vs, place-marked n v c.args.revision c.args.standing (values_of c.self.inside.rows.entries)) (c.self.invariant.of_each n v);
+      versioned = rw vs (versioned-marked c.args.revision c.args.standing (values_of c.self.inside.rows.entries) c.self.invariant.versioned);
+      small = rw vs (small-marked c.args.revision c.args.standing (values_of c.self.inside.rows.entries) c.self.invariant.small);
+      of_each = λ n u v. rw (vs, place-marked n u v c.args.revision c.args.standing (values_of c.self.inside.rows.entries)) (c.self.invariant.of_each n u v);
       of_sizes = λ n. rw (vs, size-marked n c.args.revision c.args.standing (values_of c.self.inside.rows.entries)) (c.self.invariant.of_sizes n);
       of_kept = λ n t v. rw (vs, kept-marked n t v c.args.revision 0 c.args.standing (values_of c.self.inside.rows.entries) c.in-Some.row.now c.self.invariant.rising current there)
           (kept-more _ _ (is_ok c.add.result) _ _ (c.add.ensures n t v) (c.is_err.ensures.negation ∙ ap not c.if-is_err.false) (c.self.invariant.of_kept n t v));

@@ -2,8 +2,13 @@ use Rattle.std.proofs.Common.{◌≡◌, ◌+◌, ◌++◌, ◌∷◌, [], refl,
 use Rattle.std.proofs.lemmas.Bool.{cond-true, cond-false}
 use Rattle.keep_event.specs.Table as machine
 use Rattle.keep_table.proofs.Few.{few-pushed}
-use Rattle.keep_table.proofs.Orderly.{orderly-created, collections-created, collection-undone}
+use Rattle.keep_table.proofs.Later.{none-before}
+use Rattle.keep_table.proofs.Orderly.{none-of-next, orderly-created, collections-created, collection-undone}
 use Rattle.keep_table.proofs.table.Table.create.Goals as goal
+
+-- the collection is new
+pub add-requires-2-clause-later : goal.add-requires-2-clause-later
+add-requires-2-clause-later c = rw c.new_record-record.ensures (none-before (c.self.inside.numbers + 1) 1 c.self.inside.records (none-of-next c.self.inside.numbers c.self.inside.revisions (c.self.inside.numbers + 1) c.self.inside.records (omega arith) c.self.invariant.0.drawn))
 
 pub invariant_of-self-then-is_err-2 : goal.invariant_of-self-then-is_err-2
 invariant_of-self-then-is_err-2 c =

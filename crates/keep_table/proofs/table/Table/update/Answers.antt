@@ -13,13 +13,16 @@ use Rattle.keep_table.proofs.table.Table.update.Goals as goal
 pub overflow_add-version : goal.overflow_add-version
 overflow_add-version c =
     let found : c.current_version-version.result ≤ c.self.inside.revisions =
-    rw c.current_version-version.ensures (version-le c.self.inside.numbers c.self.inside.revisions (is_current_of c.args.collection) c.self.inside.records c.self.invariant.0.drawn) in
+    rw c.current_version-version.ensures.version (version-le c.self.inside.numbers c.self.inside.revisions (is_current_of c.args.collection) c.self.inside.records c.self.invariant.0.drawn) in
     let room = room-revisions c.args.self.now.state c.requires.room in
     let revisions = ap (λ v. v.state.revisions) c.self.view_is in
     omega arith
 
 pub renew-requires-clause-newest : goal.renew-requires-clause-newest
 renew-requires-clause-newest c = rw c.new_record-row.ensures (records-below c.self.inside.numbers c.self.inside.revisions c.self.inside.records c.self.invariant.0.drawn)
+
+pub renew-requires-clause-versions : goal.renew-requires-clause-versions
+renew-requires-clause-versions c = rw c.new_record-row.ensures c.current_version-version.ensures.greatest
 
 pub renew-requires-clause-later : goal.renew-requires-clause-later
 renew-requires-clause-later c = rw c.kept_until-standing.ensures (kept-later c.self.inside.rules c.args.reading c.args.preserve)
@@ -32,7 +35,7 @@ invariant_of-self c =
 pub invariant_of-self-2 : goal.invariant_of-self-2
 invariant_of-self-2 c =
     let found : c.current_version-version.result ≤ c.self.inside.revisions =
-    rw c.current_version-version.ensures (version-le c.self.inside.numbers c.self.inside.revisions (is_current_of c.args.collection) c.self.inside.records c.self.invariant.0.drawn) in
+    rw c.current_version-version.ensures.version (version-le c.self.inside.numbers c.self.inside.revisions (is_current_of c.args.collection) c.self.inside.records c.self.invariant.0.drawn) in
     let there : c.args.collection ≤ c.self.inside.numbers =
     updatable-drawn c.self.inside.numbers c.args.reading c.args.token c.args.collection c.args.self.now.state c.in_default.field-0 (rw (← c.self.view_is) c.self.invariant.1) (sym c.updatable.ensures ∙ c.in_default.is) in
     let few : count_by (is_held c.args.reading c.args.collection) c.self.inside.records < c.self.inside.rules.versions =
