@@ -1,10 +1,8 @@
-//! Runs the cases of the files beside it, and prints a line for each: its name and `ok`, or what differs. README.md says how a case is written, and how
+//! Runs the cases of texts, lists and messages, and prints a line for each: its name and `ok`, or what differs. README.md says how a case is written, and how
 //! a subject is added.
 #![tactic(auto)]
 
 mod configurations;
-mod counted;
-mod devices;
 mod indexes;
 mod lines;
 mod lists;
@@ -14,14 +12,10 @@ mod names;
 mod orders;
 mod packs;
 mod pieces;
-mod plans;
 mod printed;
-mod safety;
 mod script;
 mod signing;
 mod subjects;
-mod tables;
-mod tasks;
 mod texts;
 mod wire;
 mod written;

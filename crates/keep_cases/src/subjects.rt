@@ -1,7 +1,7 @@
 // The subjects: which module answers the cases of a file.
 use crate::{
-    configurations, devices, indexes, lines, lists, locators, manifests, names, orders, packs,
-    plans, printed, safety, script, signing, tables, tasks, texts, wire, written,
+    configurations, indexes, lines, lists, locators, manifests, names, orders, packs, printed, script,
+    signing, texts, wire, written,
 };
 use keep_casebook::{Answer, Case, Subjects};
 use std::alloc::Global;
@@ -14,7 +14,6 @@ impl Subjects for Cases {
     fn answer_to(&self, alloc: Global, subject: &str, case: &Case, answer: &mut Answer) -> bool {
         match subject {
             "configurations" => configurations::answer(alloc, case, answer),
-            "devices" => devices::answer(alloc, case, answer),
             "digests" => texts::answer(subject, case, answer),
             "files" => manifests::answer(alloc, subject, case, answer),
             "hashes" => manifests::answer_hash(alloc, case, answer),
@@ -28,18 +27,14 @@ impl Subjects for Cases {
             "normals" => manifests::answer(alloc, subject, case, answer),
             "orders" => orders::answer(alloc, case, answer),
             "packs" => packs::answer(alloc, case, answer),
-            "plans" => plans::answer(alloc, case, answer),
             "portables" => texts::answer(subject, case, answer),
             "printed" => printed::answer(alloc, case, answer),
             "requests" => wire::answer(alloc, subject, case, answer),
             "responses" => wire::answer(alloc, subject, case, answer),
-            "safety" => safety::answer(alloc, case, answer),
             "script" => script::answer(alloc, case, answer),
             "signatures" => signing::answer_signatures(case, answer),
             "signed" => signing::answer_signed(alloc, case, answer),
             "sinks" => lines::answer_sink(alloc, case, answer),
-            "tables" => tables::answer(alloc, case, answer),
-            "tasks" => tasks::answer(alloc, case, answer),
             "unpacks" => packs::answer_manifest(alloc, case, answer),
             "uuids" => texts::answer(subject, case, answer),
             "verdicts" => signing::answer_verdicts(case, answer),

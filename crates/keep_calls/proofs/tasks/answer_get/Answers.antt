@@ -1,7 +1,7 @@
 use Rattle.keep_tasks.specs.Kinds.{IsGet}
 use Rattle.keep_tasks.specs.Walks.{AreBelow}
 use Rattle.keep_tasks.proofs.Opens.{may-ask}
-use Rattle.keep_cases.proofs.tasks.answer_get.Goals as goal
+use Rattle.keep_calls.proofs.tasks.answer_get.Goals as goal
 
 pub go_on-requires : goal.go_on-requires
 go_on-requires g c =

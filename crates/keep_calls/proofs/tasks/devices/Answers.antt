@@ -1,7 +1,7 @@
 use Rattle.std.proofs.Common.{rules, ◌≡◌, [], ◌∷◌, sym, subst}
 use Rattle.keep_cluster.specs.Cluster.{HasDevices}
-use Rattle.keep_cases.proofs.Volumes.{three_devices}
-use Rattle.keep_cases.proofs.tasks.devices.Goals as goal
+use Rattle.keep_calls.proofs.Volumes.{three_devices}
+use Rattle.keep_calls.proofs.tasks.devices.Goals as goal
 
 pub returns : goal.returns
 returns c =

@@ -2,7 +2,7 @@ use Rattle.keep_event.specs.Port.{MayAsk}
 use Rattle.keep_history.specs.Tasks.{asks_table}
 use Rattle.keep_tasks.specs.Tables.{IsTable}
 use Rattle.keep_tasks.proofs.Opens.{may-ask}
-use Rattle.keep_cases.proofs.tasks.answer_table.Goals as goal
+use Rattle.keep_calls.proofs.tasks.answer_table.Goals as goal
 
 pub go_on-requires : goal.go_on-requires
 go_on-requires g c =

@@ -1,5 +1,5 @@
 use Rattle.std.proofs.Common.{◌≡◌, length}
-use Rattle.keep_cases.proofs.tasks.answer_lines.Given as goal
+use Rattle.keep_calls.proofs.tasks.answer_lines.Given as goal
 
 -- the cluster has the configuration's devices
 abbrev pub invariant-loop-line : goal.invariant-loop-line
