@@ -1,4 +1,7 @@
+pub mod Asking
 pub mod Collisions
+pub mod Configured
+pub mod Finished
 pub mod Follows
 pub mod GetsOfPuts
 pub mod GoodTasks

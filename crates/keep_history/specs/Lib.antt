@@ -1,6 +1,7 @@
 pub mod Collisions
 pub mod Effects
 pub mod Ended
+pub mod Finished
 pub mod Names
 pub mod Printed
 pub mod Reads
