@@ -40,17 +40,17 @@ told-memory : (line : State → Reply) (held held' : Option (List (Name × Store
 told-memory line None held' w w' x e p = tt
 told-memory line (Some es) held' w w' x e p = ap (option_map w') e ∙ ap Some (p es)
 
-module _ (line : State → Reply) (old new : VolumeView) (later : old.faults ≤ new.faults) (rules : new.rules ≡ old.rules) where
+module _ (line : State → Reply) (old new : VolumeView) (later : old.faults ≤ new.faults) (rules : new.rules ≡ old.rules) (tells : new.tells_note ≡ old.tells_note) where
   -- the store made h of what it told, and the line says so
   pub becomes-line : (a : DeviceAnswer) (h : List (Name × Stored) → List (Name × Stored)) → new.held ≡ option_map h old.held
       → IfSome old.held (λ es. line (state_with old es) ≡ record { answer = a; state = state_with new (h es) })
       → (a ≡ StoreFault → ⊥) → IsLine line old new (Ok a)
-  becomes-line a h e p fault = record { told = told-becomes line old.held new.held a h (state_with old) (state_with new) e p; fault = λ e. absurd (fault e); kept = λ e. absurd (fault e); never_falls = later; rules = rules }
+  becomes-line a h e p fault = record { told = told-becomes line old.held new.held a h (state_with old) (state_with new) e p; fault = λ e. absurd (fault e); kept = λ e. absurd (fault e); never_falls = later; rules = rules; tells_note = tells }
 
 -- the line says so whatever the contents are
 pub exactly : (line : State → Reply) (old new : VolumeView) (a : DeviceAnswer) → ((es : List (Name × Stored)) → line (state_with old es) ≡ record { answer = a; state = state_with new es })
-    → new.held ≡ old.held → new.faults ≡ old.faults → new.rules ≡ old.rules → IsExactly line old new (Ok a)
-exactly line old new a p h f r = record { told = λ es. (ap (λ (r : Reply). Ok r.answer) (sym (p es)), ap (λ (r : Reply). r.state) (sym (p es))); held = h; faults = f; rules = r }
+    → new.held ≡ old.held → new.faults ≡ old.faults → new.rules ≡ old.rules → new.tells_note ≡ old.tells_note → IsExactly line old new (Ok a)
+exactly line old new a p h f r t = record { told = λ es. (ap (λ (r : Reply). Ok r.answer) (sym (p es)), ap (λ (r : Reply). r.state) (sym (p es))); held = h; faults = f; rules = r; tells_note = t }
 
 pub option_map-same : {A : Type 0} (o : Option A) → o ≡ option_map (λ x. x) o
 option_map-same None = refl
@@ -58,7 +58,7 @@ option_map-same (Some x) = refl
 
 -- nothing was asked of the store
 pub stays-line : (line : State → Reply) (d : VolumeView) (a : DeviceAnswer) → IfSome d.held (λ es. line (state_with d es) ≡ stays a (state_with d es)) → (a ≡ StoreFault → ⊥) → IsLine line d d (Ok a)
-stays-line line d a p fault = becomes-line line d d (omega arith) refl a (λ es. es) (option_map-same d.held) p fault
+stays-line line d a p fault = becomes-line line d d (omega arith) refl refl a (λ es. es) (option_map-same d.held) p fault
 
 -- the store made h of what it told, and all else of the device stays
 module _ (line : State → Reply) (old new : VolumeView) (h : List (Name × Stored) → List (Name × Stored)) (is : new ≡ over old h new.faults) (later : old.faults ≤ new.faults) where
@@ -67,7 +67,7 @@ module _ (line : State → Reply) (old new : VolumeView) (h : List (Name × Stor
 
   pub over-line : (a : DeviceAnswer) → IfSome old.held (λ es. line (state_with old es) ≡ record { answer = a; state = with_held (h es) (state_with old es) })
       → (a ≡ StoreFault → ⊥) → IsLine line old new (Ok a)
-  over-line a p fault = becomes-line line old new later (ap (λ (d : VolumeView). d.rules) is) a h (ap (λ (d : VolumeView). d.held) is)
+  over-line a p fault = becomes-line line old new later (ap (λ (d : VolumeView). d.rules) is) (ap (λ (d : VolumeView). d.tells_note) is) a h (ap (λ (d : VolumeView). d.held) is)
       (told-map old.held (λ es e. e ∙ ap (λ (s : State). record { answer = a; state = s }) (sym (state-over (h es)))) p) fault
 
 -- two calls of the store, of which the first changed nothing
@@ -76,7 +76,7 @@ option_map-twice h None = refl
 option_map-twice h (Some x) = refl
 
 pub over-over : (old mid new : VolumeView) (h : List (Name × Stored) → List (Name × Stored)) → mid ≡ over old (λ es. es) mid.faults → new ≡ over mid h new.faults → new ≡ over old h new.faults
-over-over old mid new h e f = f ∙ ap (λ d. over d h new.faults) e ∙ ap (λ (o : Option (List (Name × Stored))). record { held = o; round = old.round; trash = old.trash; pull = old.pull; rules = old.rules; faults = new.faults }) (option_map-twice h old.held)
+over-over old mid new h e f = f ∙ ap (λ d. over d h new.faults) e ∙ ap (λ (o : Option (List (Name × Stored))). record { held = o; tells_note = old.tells_note; round = old.round; trash = old.trash; pull = old.pull; rules = old.rules; faults = new.faults }) (option_map-twice h old.held)
 
 -- ---- an item of the trash list
 told-item : (line : State → Reply) (held held' : Option (List (Name × Stored))) (a : DeviceAnswer) (h : List (Name × Stored) → List (Name × Stored)) (w w' : List (Name × Stored) → State)
@@ -86,7 +86,7 @@ told-item line None held' a h w w' e p = tt
 told-item line (Some es) held' a h w w' e p = (sym (ap (λ (r : Reply). r.answer) p), ap (option_map w') e ∙ ap Some (sym (ap (λ (r : Reply). r.state) p)))
 
 pub item-stays : (line : State → Reply) (d : VolumeView) (a : DeviceAnswer) → IfSome d.held (λ es. line (state_with d es) ≡ stays a (state_with d es)) → (a ≡ StoreFault → ⊥) → IsItem line d d (Ok a)
-item-stays line d a p n = (told-item line d.held d.held a (λ es. es) (state_with d) (state_with d) (option_map-same d.held) p, omega arith, refl, refl, n)
+item-stays line d a p n = (told-item line d.held d.held a (λ es. es) (state_with d) (state_with d) (option_map-same d.held) p, omega arith, refl, refl, n, refl)
 
 pub item-over : (line : State → Reply) (old new : VolumeView) (h : List (Name × Stored) → List (Name × Stored)) → new ≡ over old h new.faults → old.faults ≤ new.faults → (a : DeviceAnswer)
     → IfSome old.held (λ es. line (state_with old es) ≡ record { answer = a; state = with_held (h es) (state_with old es) }) → (a ≡ StoreFault → ⊥) → IsItem line old new (Ok a)
@@ -96,6 +96,7 @@ item-over line old new h is later a p n = (
   ap (λ (d : VolumeView). d.rules) is,
   ap (λ (d : VolumeView). d.trash) is,
   n,
+  ap (λ (d : VolumeView). d.tells_note) is,
 )
 
 -- the item is taken
@@ -113,7 +114,7 @@ told-taken line item old mid a (Some es) held' t p q = inl (q.0 ∙ sym (ap (λ 
 
 pub taken-line : (line item : State → Reply) (old mid new : VolumeView) (a : DeviceAnswer) → IsItem item old mid (Ok a) → new ≡ without_first mid
     → IfSome old.held (λ es. line (state_with old es) ≡ taken (drop 1 old.trash) (item (state_with old es))) → IsLine line old new (Ok a)
-taken-line line item old mid new a i n p = subst (λ d. IsLine line old d (Ok a)) (sym n) (record { told = told-taken line item old mid a old.held mid.held i.3 p i.0; fault = λ e. absurd (i.4 e); kept = λ e. absurd (i.4 e); never_falls = i.1; rules = i.2 })
+taken-line line item old mid new a i n p = subst (λ d. IsLine line old d (Ok a)) (sym n) (record { told = told-taken line item old mid a old.held mid.held i.3 p i.0; fault = λ e. absurd (i.4 e); kept = λ e. absurd (i.4 e); never_falls = i.1; rules = i.2; tells_note = i.5 })
 
 -- ---- a line that goes on after a call that changed nothing
 told-after-at : (line inner : State → Reply) (s : State) (o : Option State) (result : Result DeviceAnswer NoMemory) → line s ≡ inner s → IsToldLine inner s o result → IsToldLine line s o result
@@ -145,6 +146,7 @@ after-line line inner old mid new result is later i p = record {
   kept = kept-after old mid new result is i.kept;
   never_falls = omega (arith, later, i.never_falls);
   rules = i.rules ∙ ap (λ (d : VolumeView). d.rules) is;
+  tells_note = i.tells_note ∙ ap (λ (d : VolumeView). d.tells_note) is;
 }
 
 pub anyway-at : (line : State → Reply) (s t : State) (a : DeviceAnswer) → line s ≡ record { answer = a; state = t } → IsToldLine line s (Some t) (Ok a)

@@ -1,5 +1,5 @@
 -- A device over a store that may tell what it holds: the words of its public contracts.
-use Rattle.std.specs.Prelude.{◌≡◌, ◌≢◌, ℕ, ◌<◌, ◌≤◌, List, Option, Some, option_map, IfSome, Result, Ok, Err, ◌⊎◌, ⊤, drop, [], Bool, true, false}
+use Rattle.std.specs.Prelude.{◌≡◌, ◌≢◌, ℕ, ◌<◌, ◌≤◌, List, Option, None, Some, is_some, option_map, if◌then◌else◌, IfSome, Result, Ok, Err, ◌⊎◌, ⊤, drop, [], Bool, true, false}
 use Rattle.keep_spec.specs.Causes.{Rose}
 use Rattle.keep_event.specs.Device.{State, Reply, restart}
 use Rattle.keep_event.specs.declared.names.Name.{Name}
@@ -15,9 +15,10 @@ use Rattle.keep_volume.specs.declared.volume.OpenError.{OpenError}
 use Rattle.keep_volume.specs.declared.volume.OpenError.TheVariants.{StoreFault, NoMemory}
 use Rattle.keep_spec.specs.declared.memory.NoMemory as memory
 
--- what callers see of a device: what its store tells, the kept round, the two lists, the rules, and the store's count of faults
+-- what callers see of a device: what its store tells, whether it tells its note, the kept round, the two lists, the rules, and the store's count of faults
 pub record VolumeView : Type 0 where
   pub held : Option (List (Name × Stored))
+  pub tells_note : Bool
   pub round : ℕ
   pub trash : List TrashItem
   pub pull : List PullItem
@@ -26,6 +27,10 @@ pub record VolumeView : Type 0 where
 
 abbrev pub state_with : VolumeView → List (Name × Stored) → State
 state_with d es = record { held = es; round = d.round; trash = d.trash; pull = d.pull }
+
+-- the note of the store, where it tells it: the kept round
+abbrev pub note_of : VolumeView → Option ℕ
+note_of d = if d.tells_note then Some d.round else None
 
 -- the state of the device machine, where the store tells
 abbrev pub state_of : VolumeView → Option State
@@ -43,7 +48,7 @@ HasFault before now (Ok answer) = answer ≡ answers.StoreFault → Rose before 
 
 -- the device over the store after a call that made h of what is told
 abbrev pub over : VolumeView → (List (Name × Stored) → List (Name × Stored)) → ℕ → VolumeView
-over d h faults = record { held = option_map h d.held; round = d.round; trash = d.trash; pull = d.pull; rules = d.rules; faults = faults }
+over d h faults = record { held = option_map h d.held; tells_note = d.tells_note; round = d.round; trash = d.trash; pull = d.pull; rules = d.rules; faults = faults }
 
 -- a refusal changes nothing, also where the store doesn't tell
 abbrev pub IsKept : VolumeView → VolumeView → Result DeviceAnswer memory.NoMemory → Type 0
@@ -56,10 +61,12 @@ pub record IsLine (line : State → Reply) (old new : VolumeView) (result : Resu
   pub kept : IsKept old new result
   pub never_falls : old.faults ≤ new.faults
   pub rules : new.rules ≡ old.rules
+  pub tells_note : new.tells_note ≡ old.tells_note
 
 -- a device that was opened: lists empty, the round is the note
 pub record IsOpened (told : Option (List (Name × Stored))) (noted : Option ℕ) (given : DeviceRules) (d : VolumeView) : Type 0 where
   pub held : d.held ≡ told
+  pub tells_note : d.tells_note ≡ is_some noted
   pub round : IfSome noted (λ n. d.round ≡ n)
   pub trash : d.trash ≡ []
   pub pull : d.pull ≡ []
@@ -76,6 +83,7 @@ pub record IsExactly (line : State → Reply) (old new : VolumeView) (result : R
   pub held : new.held ≡ old.held
   pub faults : new.faults ≡ old.faults
   pub rules : new.rules ≡ old.rules
+  pub tells_note : new.tells_note ≡ old.tells_note
 
 -- a line that doesn't read the contents: the same whatever they are, and whether the store tells them or not
 abbrev pub IsLineUntold : (State → Reply) → VolumeView → VolumeView → Result DeviceAnswer memory.NoMemory → Type 0
@@ -90,7 +98,7 @@ pub record HasReadOnly (old new : VolumeView) (result : Result DeviceAnswer memo
 abbrev pub HasReadOnlyItem : VolumeView → VolumeView → Result DeviceAnswer memory.NoMemory → Type 0
 HasReadOnlyItem old new result =
     old.rules.read_only ≡ true → old.trash ≢ []
-    → (result ≡ Ok answers.ReadOnly) × (new ≡ record { held = old.held; round = old.round; trash = drop 1 old.trash; pull = old.pull; rules = old.rules; faults = old.faults })
+    → (result ≡ Ok answers.ReadOnly) × (new ≡ record { held = old.held; tells_note = old.tells_note; round = old.round; trash = drop 1 old.trash; pull = old.pull; rules = old.rules; faults = old.faults })
 
 -- a round below the kept one is answered Stale, whatever the store does, and no other
 pub record HasLowerStale (round : ℕ) (old new : VolumeView) (result : Result DeviceAnswer memory.NoMemory) : Type 0 where

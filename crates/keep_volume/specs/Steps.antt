@@ -16,13 +16,13 @@ IsStoreCall h old new (Err e) = (new ≡ over old (λ es. es) new.faults) × Ros
 
 -- the machine's line of an item of the trash list, exactly; the list itself stays
 abbrev pub IsItem : (State → Reply) → VolumeView → VolumeView → Result DeviceAnswer Failed → Type 0
-IsItem line old new (Ok a) = IfSome (state_of old) (λ s. (a ≡ (line s).answer) × (state_of new ≡ Some (line s).state)) × (old.faults ≤ new.faults) × (new.rules ≡ old.rules) × (new.trash ≡ old.trash) × (a ≡ answers.StoreFault → ⊥)
+IsItem line old new (Ok a) = IfSome (state_of old) (λ s. (a ≡ (line s).answer) × (state_of new ≡ Some (line s).state)) × (old.faults ≤ new.faults) × (new.rules ≡ old.rules) × (new.trash ≡ old.trash) × (a ≡ answers.StoreFault → ⊥) × (new.tells_note ≡ old.tells_note)
 IsItem line old new (Err e) = (new ≡ over old (λ es. es) new.faults) × Rose old.faults new.faults × (old.faults ≤ new.faults)
 
 -- the first item of the trash list is taken
 abbrev pub without_first : VolumeView → VolumeView
-without_first d = record { held = d.held; round = d.round; trash = drop 1 d.trash; pull = d.pull; rules = d.rules; faults = d.faults }
+without_first d = record { held = d.held; tells_note = d.tells_note; round = d.round; trash = drop 1 d.trash; pull = d.pull; rules = d.rules; faults = d.faults }
 
 -- both lists are emptied
 abbrev pub without_lists : VolumeView → VolumeView
-without_lists d = record { held = d.held; round = d.round; trash = []; pull = []; rules = d.rules; faults = d.faults }
+without_lists d = record { held = d.held; tells_note = d.tells_note; round = d.round; trash = []; pull = []; rules = d.rules; faults = d.faults }

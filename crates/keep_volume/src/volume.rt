@@ -6,7 +6,7 @@ ghost use Rattle.keep_event.specs.Device as machine;
 ghost use Rattle.keep_event.specs.Store as store;
 ghost use Rattle.keep_event.specs.Store.{find, size_of, sized};
 ghost use Rattle.std.specs.List.{find as list_find, last_or, filter};
-ghost use Rattle.keep_volume.specs.Calls.{IsLine, IsLineUntold, IsExactly, HasReadOnly, HasReadOnlyItem, HasLowerStale, HasStale, HasStaleRound, HasIdle, IsReopened, state_of, VolumeView, over, IsOpened, IsGivenBack, is_refused, takes_memory};
+ghost use Rattle.keep_volume.specs.Calls.{IsLine, IsLineUntold, IsExactly, HasReadOnly, HasReadOnlyItem, HasLowerStale, HasStale, HasStaleRound, HasIdle, IsReopened, note_of, state_of, VolumeView, over, IsOpened, IsGivenBack, is_refused, takes_memory};
 ghost use Rattle.keep_volume.specs.Steps.{IsStoreCall, IsItem, without_first, without_lists};
 ghost use Rattle.keep_store.specs.Causes.{HasStoreCause};
 ghost use Rattle.keep_event.specs.Answers.{is_compared, is_written, is_fetched, is_touched, is_cleared, is_accepted, is_page, is_trashed, is_pulled, is_untrashed, is_emptied, is_restarted, is_store_fault, is_device_answer};
@@ -32,7 +32,7 @@ pub enum OpenError<S> {
     NoMemory { store: S },
 }
 
-/// A device: replicas, trashed copies and the kept round in a store, with the two lists, the rules, and the times and sizes of all names, so that most calls needn't ask the store. It is seen as what the store tells, the round, the lists, the rules and the store's count of faults.
+/// A device: replicas, trashed copies and the kept round in a store, with the two lists, the rules, and the times and sizes of all names, so that most calls needn't ask the store. It is seen as what the store tells, whether it tells its note, the round, the lists, the rules and the store's count of faults.
 /// Each call is one line of the device machine. A call changes its store by one store call at most.
 #[derive(Drop)]
 pub struct Volume<S: Store> {
@@ -47,13 +47,13 @@ pub struct Volume<S: Store> {
 }
 
 impl<S: Store> Model for Volume<S> {
-    ghost use Rattle.std.specs.Prelude.{◌≡◌, ◌≤◌, length, drop, IfSome};
+    ghost use Rattle.std.specs.Prelude.{◌≡◌, ◌≤◌, length, drop, is_some, IfSome};
     ghost use Rattle.keep_volume.specs.Calls.{VolumeView};
     ghost use Rattle.keep_volume.specs.Index.{Remembers};
 
     ghost Value = { VolumeView };
 
-    ghost view = { λ v. record { held = S.held v.store; round = v.round; trash = drop v.trash_done v.trash.items; pull = v.pull.items; rules = v.rules; faults = S.faults v.store } };
+    ghost view = { λ v. record { held = S.held v.store; tells_note = is_some (S.noted v.store); round = v.round; trash = drop v.trash_done v.trash.items; pull = v.pull.items; rules = v.rules; faults = S.faults v.store } };
 
     ghost invariant = { λ v. record { remembers : Remembers (S.held v.store) v.index.entries; done : v.trash_done ≤ length v.trash.items; noted : IfSome (S.noted v.store) (λ n. n ≡ v.round) } };
 }
@@ -107,11 +107,11 @@ impl<S: Store> Volume<S> {
         })
     }
 
-    /// Returns the store. A device that is opened over it is this one after a restart.
+    /// Returns the store. Its note is the round. A device that is opened over it is this one after a restart.
     pub fn into_store(self) -> S
         ensures held { S.held result ≡ self.held }
         ensures faults { S.faults result ≡ self.faults }
-        ensures note { IfSome (S.noted result) (λ n. n ≡ self.round) }
+        ensures note { S.noted result ≡ note_of self }
         ensures reopened { IsReopened (S.held result) (S.noted result) self }
     {
         let Volume {

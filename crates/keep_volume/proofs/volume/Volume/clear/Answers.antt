@@ -4,6 +4,7 @@ use Rattle.std.proofs.Common.{drop, []}
 use Rattle.keep_event.specs.Device as machine
 use Rattle.keep_event.specs.Device.{State}
 use Rattle.keep_volume.proofs.Lines.{stays-line, becomes-line, anyway-at, told-all, option_map-same}
+use Rattle.keep_volume.proofs.Notes.{noted-still}
 use Rattle.keep_volume.proofs.Machine.{clear-stale, clear-done}
 use Rattle.keep_volume.proofs.volume.Volume.clear.Goals as goal
 
@@ -12,7 +13,7 @@ returns-then-round-self-clause-line g c = rw (← c.self.view_is) (stays-line _ 
 
 pub returns-clause-line : goal.returns-clause-line
 returns-clause-line g c = rw (c.drop_lists.ensures, ← c.self.view_is)
-    (becomes-line _ _ _ c.set_note.ensures.cause.never_falls refl Cleared (λ es. es) (c.set_note.ensures.unchanged ∙ option_map-same _) (told-all (g.S.Store.held c.self.inside.store) (λ es. clear-done c.args.round _ (search rules))) (λ e. cc e))
+    (becomes-line _ _ _ c.set_note.ensures.cause.never_falls refl (noted-still _ _ _ c.set_note.result c.set_note.ensures.ok c.set_note.ensures.err) Cleared (λ es. es) (c.set_note.ensures.unchanged ∙ option_map-same _) (told-all (g.S.Store.held c.self.inside.store) (λ es. clear-done c.args.round _ (search rules))) (λ e. cc e))
 
 pub returns-then-round-self-clause-whatever_is_told : goal.returns-then-round-self-clause-whatever_is_told
 returns-then-round-self-clause-whatever_is_told g c = rw (← c.self.view_is) (λ es.
