@@ -1,14 +1,15 @@
--- The states, rules and counts of the devices of a cluster, where one of them changes: `states-at`, `states-set`, `rules-at`, `rules-set`, `fault-at`, `none-falls`, `two_devices`.
+-- The states, rules and counts of the devices of a cluster, where one of them changes: `told-is`, `told-note`, `told-known`, `states-at`, `states-set`, `rules-at`, `rules-set`, `fault-at`, `none-falls`, `two_devices`.
 use Rattle.std.proofs.Common.{◌≡◌, ◌<◌, ◌≤◌, ◌+◌, ℕ, zero, suc, List, [], ◌∷◌, length, map, get_or, set, Option, None, Some, slice_get, refl, sym, ◌∙◌, ap, subst, arith}
 use Rattle.std.proofs.Math.Seq.{map-set_same}
 use Rattle.std.specs.Option.{option_map_or}
+use Rattle.std.specs.Prelude.{Bool, true, false, if◌then◌else◌}
 use Rattle.keep_spec.specs.Causes.{Rose}
 use Rattle.keep_spec.specs.Config.{Configuration}
 use Rattle.keep_spec.specs.declared.config.Device.{Device as TheDevice}
 use Rattle.keep_event.specs.Device.{State, initial}
 use Rattle.keep_event.specs.World.{device_rules, rules_of}
 use Rattle.keep_volume.specs.Calls.{VolumeView, state_of}
-use Rattle.keep_cluster.specs.Cluster.{HasDevices, with_known, states_of, faults_at}
+use Rattle.keep_cluster.specs.Cluster.{HasDevices, with_known, told_state, states_of, faults_at}
 
 record AreKnown {A : Type 0} (o : Option A) (os : Option (List A)) (r : List A) : Type 0 where
   first : A
@@ -22,24 +23,38 @@ known-parts None os r e = cc e
 known-parts (Some x) None r e = cc e
 known-parts (Some x) (Some xs) r e = record { first = x; rest = xs; first_is = refl; rest_is = refl; all_is = cc e }
 
+-- the store of a device whose state is known tells its note, and the state is the device's
+pub told-note : (d : VolumeView) (s : State) → told_state d ≡ Some s → d.tells_note ≡ true
+told-note d s e = by d.tells_note refl e
+  where
+    by : (b : Bool) → d.tells_note ≡ b → (if b then state_of d else None) ≡ Some s → b ≡ true
+    by true n e = refl
+    by false n e = cc e
+
+pub told-is : (d : VolumeView) (s : State) → told_state d ≡ Some s → state_of d ≡ Some s
+told-is d s e = sym (ap (λ b. if b then state_of d else None) (told-note d s e)) ∙ e
+
+pub told-known : (d : VolumeView) (s : State) → d.tells_note ≡ true → state_of d ≡ Some s → told_state d ≡ Some s
+told-known d s e is = ap (λ b. if b then state_of d else None) e ∙ is
+
 -- the state of one device among the states of all
-pub states-at : (ds : List VolumeView) (ss : List State) (i : ℕ) (d : VolumeView) → states_of ds ≡ Some ss → i < length ds → state_of (get_or ds i d) ≡ Some (get_or ss i initial)
+pub states-at : (ds : List VolumeView) (ss : List State) (i : ℕ) (d : VolumeView) → states_of ds ≡ Some ss → i < length ds → told_state (get_or ds i d) ≡ Some (get_or ss i initial)
 states-at [] ss i d e lt = absurd (omega (arith, lt))
 states-at (x ∷ xs) ss zero d e lt =
-    let p = known-parts (state_of x) (states_of xs) ss e in
+    let p = known-parts (told_state x) (states_of xs) ss e in
     p.first_is ∙ ap (λ (l : List State). Some (get_or l 0 initial)) (sym p.all_is)
 states-at (x ∷ xs) ss (suc i) d e lt =
-    let p = known-parts (state_of x) (states_of xs) ss e in
+    let p = known-parts (told_state x) (states_of xs) ss e in
     states-at xs p.rest i d p.rest_is (omega (arith, lt)) ∙ ap (λ (l : List State). Some (get_or l (suc i) initial)) (sym p.all_is)
 
 -- the states of all, where one device is replaced
-pub states-set : (ds : List VolumeView) (ss : List State) (i : ℕ) (d : VolumeView) (s : State) → states_of ds ≡ Some ss → i < length ds → state_of d ≡ Some s → states_of (set ds i d) ≡ Some (set ss i s)
+pub states-set : (ds : List VolumeView) (ss : List State) (i : ℕ) (d : VolumeView) (s : State) → states_of ds ≡ Some ss → i < length ds → told_state d ≡ Some s → states_of (set ds i d) ≡ Some (set ss i s)
 states-set [] ss i d s e lt is = absurd (omega (arith, lt))
 states-set (x ∷ xs) ss zero d s e lt is =
-    let p = known-parts (state_of x) (states_of xs) ss e in
+    let p = known-parts (told_state x) (states_of xs) ss e in
     ap (λ o. with_known o (states_of xs)) is ∙ ap (with_known (Some s)) p.rest_is ∙ ap (λ (l : List State). Some (set l 0 s)) (sym p.all_is)
 states-set (x ∷ xs) ss (suc i) d s e lt is =
-    let p = known-parts (state_of x) (states_of xs) ss e in
+    let p = known-parts (told_state x) (states_of xs) ss e in
     ap (λ o. with_known o (states_of (set xs i d))) p.first_is ∙ ap (with_known (Some p.first)) (states-set xs p.rest i d s p.rest_is (omega (arith, lt)) is)
     ∙ ap (λ (l : List State). Some (set l (suc i) s)) (sym p.all_is)
 

@@ -21,9 +21,9 @@ use Rattle.keep_event.specs.declared.port.Reply.{Reply}
 use Rattle.keep_event.specs.declared.port.PortError.TheVariants as E
 use Rattle.keep_table.specs.Contents.{Contents, IsLine as IsTableLine}
 use Rattle.keep_volume.specs.Calls.{VolumeView, state_of, IsLine, IsToldLine}
-use Rattle.keep_cluster.specs.Cluster.{HasDevices, states_of, faults_at}
+use Rattle.keep_cluster.specs.Cluster.{HasDevices, told_state, states_of, faults_at}
 use Rattle.keep_cluster.specs.Asked.{IsAskedOf}
-use Rattle.keep_cluster.proofs.Devices.{states-at, states-set, rules-at, fault-at, fault-set}
+use Rattle.keep_cluster.proofs.Devices.{told-is, told-note, told-known, states-at, states-set, rules-at, fault-at, fault-set}
 
 abbrev made : Configuration → tables.State → List State → World
 made c t ss = record { config = c; devices = ss; table = t }
@@ -41,8 +41,8 @@ told f (Some ss) P h = h ss refl
 
 module _ (c : Configuration) (t : tables.State) (ds new : List VolumeView) (device reading : ℕ) (query : DeviceQuery) (has : HasDevices c ds) (lt : device < length ds) where
   -- the state of the device that is asked
-  before-is : (result : Result DeviceAnswer NoMemory) (ss : List State) → states_of ds ≡ Some ss → (a : IsAskedOf device reading query ds new result) → state_of a.before ≡ Some (get_or ss device initial)
-  before-is result ss e a = subst (λ d. state_of d ≡ Some (get_or ss device initial)) (a.found a.before) (states-at ds ss device a.before e lt)
+  before-is : (result : Result DeviceAnswer NoMemory) (ss : List State) → states_of ds ≡ Some ss → (a : IsAskedOf device reading query ds new result) → told_state a.before ≡ Some (get_or ss device initial)
+  before-is result ss e a = subst (λ d. told_state d ≡ Some (get_or ss device initial)) (a.found a.before) (states-at ds ss device a.before e lt)
 
   rules-is : (result : Result DeviceAnswer NoMemory) (a : IsAskedOf device reading query ds new result) → a.before.rules ≡ device_rules c device
   rules-is result a = subst (λ d. d.rules ≡ device_rules c device) (a.found a.before) (rules-at c ds device a.before has lt)
@@ -51,10 +51,12 @@ module _ (c : Configuration) (t : tables.State) (ds new : List VolumeView) (devi
       → IsToldLine (step (device_rules c device) reading query) (get_or ss device initial) (state_of a.after) result
   told-line result ss e a =
       subst (λ rules. IsToldLine (step rules reading query) (get_or ss device initial) (state_of a.after) result) (rules-is result a)
-      (subst (λ o. IfSome o (λ s. IsToldLine (step a.before.rules reading query) s (state_of a.after) result)) (before-is result ss e a) a.line.told)
+      (subst (λ o. IfSome o (λ s. IsToldLine (step a.before.rules reading query) s (state_of a.after) result)) (told-is a.before (get_or ss device initial) (before-is result ss e a)) a.line.told)
 
   new-is : (result : Result DeviceAnswer NoMemory) (ss : List State) (s : State) → states_of ds ≡ Some ss → (a : IsAskedOf device reading query ds new result) → state_of a.after ≡ Some s → states_of new ≡ Some (set ss device s)
-  new-is result ss s e a is = ap states_of a.changed ∙ states-set ds ss device a.after s e lt is
+  new-is result ss s e a is =
+      let note : a.after.tells_note ≡ true = a.line.tells_note ∙ told-note a.before (get_or ss device initial) (before-is result ss e a) in
+      ap states_of a.changed ∙ states-set ds ss device a.after s e lt (told-known a.after s note is)
 
   line-or-fault : (tick : ℕ) (answer : DeviceAnswer) (ss : List State) → states_of ds ≡ Some ss → (a : IsAskedOf device reading query ds new (Ok answer))
       → ((answer ≡ (step (device_rules c device) reading query (get_or ss device initial)).answer) × (state_of a.after ≡ Some (step (device_rules c device) reading query (get_or ss device initial)).state))

@@ -1,5 +1,5 @@
 -- What callers see of a cluster: its devices and its table by a configuration, the reading of the next event, and how many events were made.
-use Rattle.std.specs.Prelude.{◌≡◌, ◌≤◌, ℕ, List, [], ◌∷◌, map, Option, None, Some, option_map, slice_get}
+use Rattle.std.specs.Prelude.{◌≡◌, ◌≤◌, ℕ, List, [], ◌∷◌, map, Option, None, Some, option_map, slice_get, if◌then◌else◌}
 use Rattle.std.specs.Option.{option_map_or}
 use Rattle.keep_spec.specs.Config.{Configuration}
 use Rattle.keep_spec.specs.Times.{IsReading}
@@ -37,10 +37,14 @@ with_known None xs = None
 with_known (Some x) None = None
 with_known (Some x) (Some xs) = Some (x ∷ xs)
 
--- the states of the devices, where all of their stores tell
+-- the state of a device, where its store tells what it holds and its note
+abbrev pub told_state : VolumeView → Option State
+told_state d = if d.tells_note then state_of d else None
+
+-- the states of the devices, where all of their stores tell both
 abbrev pub states_of : List VolumeView → Option (List State)
 states_of [] = Some []
-states_of (d ∷ ds) = with_known (state_of d) (states_of ds)
+states_of (d ∷ ds) = with_known (told_state d) (states_of ds)
 
 abbrev pub world_of : View → Option World
 world_of v = option_map (λ ss. record { config = v.config; devices = ss; table = v.table.state }) (states_of v.devices)
