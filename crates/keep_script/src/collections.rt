@@ -269,17 +269,18 @@ fn joined_parts<T>(
         let Some(part) = part_of_value(alloc, names, part)? else {
             return Ok(None);
         };
-        text.extend_from_slice(part.as_slice())?;
+        text.extend_from_slice(part)?;
     }
     Ok(Some(Bytes::of(text)))
 }
 
-fn part_of_value<T>(
+// Lends a part from where it stands, so that it is copied only into the whole.
+fn part_of_value<'a, T>(
     alloc: Global,
-    names: &BTreeMap<Bytes, TaskState<T>>,
-    value: &Value,
-) -> Result<Option<Bytes>, NoMemory>
-    ensures { IfOk result (λ o. o ≡ part_of_data (seen_names names.now.entries) (view value.now)) }
+    names: &'a BTreeMap<Bytes, TaskState<T>>,
+    value: &'a Value,
+) -> Result<Option<&'a [u8]>, NoMemory>
+    ensures { IfOk result (λ o. option_map (λ s. s.now) o ≡ part_of_data (seen_names names.now.entries) (view value.now)) }
 {
     match locator_of_value(alloc, names, value)? {
         Some(text) => Ok(Some(text)),
@@ -287,32 +288,28 @@ fn part_of_value<T>(
     }
 }
 
-fn text_of_reference<T>(
+fn text_of_reference<'a, T>(
     alloc: Global,
-    names: &BTreeMap<Bytes, TaskState<T>>,
+    names: &'a BTreeMap<Bytes, TaskState<T>>,
     value: &Value,
-) -> Result<Option<Bytes>, NoMemory>
-    ensures { IfOk result (λ o. o ≡ text_of_reference (seen_names names.now.entries) (view value.now)) }
+) -> Result<Option<&'a [u8]>, NoMemory>
+    ensures { IfOk result (λ o. option_map (λ s. s.now) o ≡ text_of_reference (seen_names names.now.entries) (view value.now)) }
 {
     if !has_members(value, 1) {
         return Ok(None);
     }
     match text_at(value, "manifest") {
-        Some(name) => ended_text(alloc, names, &Bytes::copy_of(alloc, name.as_bytes())?),
+        Some(name) => Ok(ended_text(names, &Bytes::copy_of(alloc, name.as_bytes())?)),
         None => Ok(None),
     }
 }
 
 #[tactic(auto, using(crate::proofs::SeenNames::seen_at_name))]
-fn ended_text<T>(
-    alloc: Global,
-    names: &BTreeMap<Bytes, TaskState<T>>,
-    name: &Bytes,
-) -> Result<Option<Bytes>, NoMemory>
-    ensures { IfOk result (λ o. o ≡ ended_text (at_name name.now (seen_names names.now.entries))) }
+fn ended_text<'a, T>(names: &'a BTreeMap<Bytes, TaskState<T>>, name: &Bytes) -> Option<&'a [u8]>
+    ensures { option_map (λ s. s.now) result ≡ ended_text (at_name name.now (seen_names names.now.entries)) }
 {
     match names.get(name) {
-        Some(TaskState::Row { text }) => Ok(Some(text.duplicate(alloc)?)),
-        _ => Ok(None),
+        Some(TaskState::Row { text }) => Some(text.as_slice()),
+        _ => None,
     }
 }

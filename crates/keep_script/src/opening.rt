@@ -110,7 +110,7 @@ fn block_request_of_value<T>(
     Ok(Some(BlockRequest {
         token: Bytes::copy_of(alloc, token.as_bytes())?,
         server,
-        locator,
+        locator: Bytes::copy_of(alloc, locator)?,
     }))
 }
 
@@ -226,46 +226,42 @@ fn digest_of_member(member: Option<&Value>) -> Option<Option<Digest>>
     }
 }
 
-/// The locator of a text, or of a reference to a task that ended with one.
-pub(crate) fn locator_of_value<T>(
+/// The locator of a text, or of a reference to a task that ended with one, lent from where it stands.
+pub(crate) fn locator_of_value<'a, T>(
     alloc: Global,
-    names: &BTreeMap<Bytes, TaskState<T>>,
-    value: &Value,
-) -> Result<Option<Bytes>, NoMemory>
-    ensures { IfOk result (λ o. o ≡ locator_of_data (seen_names names.now.entries) (view value.now)) }
+    names: &'a BTreeMap<Bytes, TaskState<T>>,
+    value: &'a Value,
+) -> Result<Option<&'a [u8]>, NoMemory>
+    ensures { IfOk result (λ o. option_map (λ s. s.now) o ≡ locator_of_data (seen_names names.now.entries) (view value.now)) }
 {
     match value.as_str() {
-        Some(text) => Ok(Some(Bytes::copy_of(alloc, text.as_bytes())?)),
+        Some(text) => Ok(Some(text.as_bytes())),
         None => locator_of_reference(alloc, names, value),
     }
 }
 
-fn locator_of_reference<T>(
+fn locator_of_reference<'a, T>(
     alloc: Global,
-    names: &BTreeMap<Bytes, TaskState<T>>,
+    names: &'a BTreeMap<Bytes, TaskState<T>>,
     value: &Value,
-) -> Result<Option<Bytes>, NoMemory>
-    ensures { IfOk result (λ o. o ≡ locator_of_reference (seen_names names.now.entries) (view value.now)) }
+) -> Result<Option<&'a [u8]>, NoMemory>
+    ensures { IfOk result (λ o. option_map (λ s. s.now) o ≡ locator_of_reference (seen_names names.now.entries) (view value.now)) }
 {
     if !has_members(value, 1) {
         return Ok(None);
     }
     match text_at(value, "locator") {
-        Some(name) => ended_locator(alloc, names, &Bytes::copy_of(alloc, name.as_bytes())?),
+        Some(name) => Ok(ended_locator(names, &Bytes::copy_of(alloc, name.as_bytes())?)),
         None => Ok(None),
     }
 }
 
 #[tactic(auto, using(crate::proofs::SeenNames::seen_at_name))]
-fn ended_locator<T>(
-    alloc: Global,
-    names: &BTreeMap<Bytes, TaskState<T>>,
-    name: &Bytes,
-) -> Result<Option<Bytes>, NoMemory>
-    ensures { IfOk result (λ o. o ≡ ended_locator (at_name name.now (seen_names names.now.entries))) }
+fn ended_locator<'a, T>(names: &'a BTreeMap<Bytes, TaskState<T>>, name: &Bytes) -> Option<&'a [u8]>
+    ensures { option_map (λ s. s.now) result ≡ ended_locator (at_name name.now (seen_names names.now.entries)) }
 {
     match names.get(name) {
-        Some(TaskState::Located { locator }) => Ok(Some(locator.duplicate(alloc)?)),
-        _ => Ok(None),
+        Some(TaskState::Located { locator }) => Some(locator.as_slice()),
+        _ => None,
     }
 }
