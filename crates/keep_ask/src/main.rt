@@ -54,7 +54,7 @@ fn put(rt: &HostRuntime, config: &Config, token: &str, copies: &str) -> io::Resu
         println!(rt; "TooLong")?;
         return Ok(End::Missed);
     };
-    let mut link = TcpLink::new(rt, config);
+    let mut link = TcpLink::new(rt.alloc(), rt, config);
     match put_block(
         rt.alloc(),
         &mut link,
@@ -77,7 +77,7 @@ fn put(rt: &HostRuntime, config: &Config, token: &str, copies: &str) -> io::Resu
 
 // Gets a block, and prints its bytes in hexadecimal digits.
 fn get(rt: &HostRuntime, config: &Config, token: &str, locator: &str) -> io::Result<End> {
-    let mut link = TcpLink::new(rt, config);
+    let mut link = TcpLink::new(rt.alloc(), rt, config);
     match get_block(
         rt.alloc(),
         &mut link,
@@ -108,7 +108,7 @@ fn index(
     if server_of(config, &mount).is_none() || !is_index_prefix(prefix.as_bytes()) {
         return Ok(End::BadWords);
     }
-    let mut link = TcpLink::new(rt, config);
+    let mut link = TcpLink::new(rt.alloc(), rt, config);
     match fetch_index(
         rt.alloc(),
         &mut link,

@@ -2,16 +2,19 @@
 use crate::link::{Link, Standing};
 use keep_config::Config;
 use keep_spec::Failed;
-use std::io::{Read, Write};
+use std::alloc::Global;
+use std::io::{BufReader, Read, Write};
 use std::net::{Net, TcpStream};
 use std::str;
 
-/// A link over TCP, one connection for each exchange. A server is reached at the first of its addresses in the configuration that can be connected to. An opening fails, and counts as one failure, where none of them can; those that refuse before another one answers count for nothing. Each error of a read or a write counts as a failure, also where it was only interrupted, and so does a write that takes nothing of bytes that there are. Nothing is told of what is exchanged.
+/// A link over TCP, one connection for each exchange. A server is reached at the first of its addresses in the configuration that can be connected to. An opening fails, and counts as one failure, where none of them can, or where memory for the connection's buffer is refused; those that refuse before another one answers count for nothing. Each error of a read or a write counts as a failure, also where it was only interrupted, and so does a write that takes nothing of bytes that there are. Nothing is told of what is exchanged. It reads ahead of what is asked for, and a close drops what wasn't handed out.
 #[derive(Drop)]
 pub struct TcpLink<'a, N: Net> {
+    alloc: Global,
     net: &'a N,
     config: &'a Config,
-    stream: Option<N::Stream>,
+    // Buffered, since the head of an answer is read byte by byte.
+    stream: Option<BufReader<N::Stream>>,
     standing: Standing,
     faults: u64,
 }
@@ -21,11 +24,12 @@ impl<'a, N: Net> TcpLink<'a, N> {
     ghost use Rattle.keep_spec.specs.Causes.{Rose};
 
     /// A link to the servers of a configuration. Connects to none yet.
-    pub fn new(net: &'a N, config: &'a Config) -> TcpLink<'a, N>
+    pub fn new(alloc: Global, net: &'a N, config: &'a Config) -> TcpLink<'a, N>
         ensures standing { ⟦<TcpLink<'a, N> as Link>⟧.standing result ≡ Standing.Closed }
         ensures faults { ⟦<TcpLink<'a, N> as Link>⟧.faults result ≡ 0 }
     {
         TcpLink {
+            alloc,
             net,
             config,
             stream: None,
@@ -45,7 +49,7 @@ impl<'a, N: Net> TcpLink<'a, N> {
         Failed
     }
 
-    fn connected(&self, server: u32) -> Option<N::Stream> {
+    fn connected(&self, server: u32) -> Option<BufReader<N::Stream>> {
         let config: &Config = self.config;
         let server = config.servers.as_slice().get(server as usize)?;
         for address in server.addresses.as_slice() {
@@ -53,7 +57,7 @@ impl<'a, N: Net> TcpLink<'a, N> {
                 continue;
             };
             if let Ok(stream) = TcpStream::connect(self.net, text) {
-                return Some(stream);
+                return BufReader::new(self.alloc, stream).ok();
             }
         }
         None
@@ -82,7 +86,7 @@ impl<'a, N: Net> Link for TcpLink<'a, N> {
 
     fn write(&mut self, bytes: &[u8]) -> Result<usize, Failed> {
         let result = match &mut self.stream {
-            Some(stream) => stream.write(bytes).ok(),
+            Some(stream) => stream.get_mut().write(bytes).ok(),
             None => None,
         };
         match result {
