@@ -1,0 +1,27 @@
+//! Runs the cases of a client in the files beside it, and prints a line for each: its name and `ok`, or what differs. `crates/keep_cases/README.md` says how a case
+//! is written.
+#![tactic(auto)]
+
+mod clients;
+
+use keep_casebook::{Answer, Case, Subjects, run_cases};
+use std::alloc::Global;
+use std::io;
+
+// The subjects of this program.
+#[derive(Clone, Copy)]
+struct Exchanges;
+
+impl Subjects for Exchanges {
+    fn answer_to(&self, alloc: Global, subject: &str, case: &Case, answer: &mut Answer) -> bool {
+        match subject {
+            "clients" => clients::answer(alloc, case, answer),
+            _ => return false,
+        }
+        true
+    }
+}
+
+fn main(rt: HostRuntime) -> io::Result<()> {
+    run_cases(&rt, &Exchanges)
+}
