@@ -35,3 +35,4 @@ pub mod HeldDigests
 pub mod Reversed
 pub mod LiveDigests
 pub mod HeldNowhere
+mod EmptyDevices

@@ -8,5 +8,6 @@ pub mod Safe
 pub mod Signatures
 pub mod Times
 pub mod Unheld
+pub mod WorldLines
 pub mod Seen
 pub mod Judged
