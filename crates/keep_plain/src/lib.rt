@@ -1,4 +1,4 @@
-//! Devices over plain lists: the device machine line by line, as it is read, with no index and no store. What a device over a store does is compared with it.
+//! Devices over plain lists: the device machine line by line, as it is read, with no index and no store, to compare devices over stores with.
 #![tactic(auto)]
 
 mod device;
