@@ -3,9 +3,10 @@ use Rattle.std.proofs.Common.{◌≡◌, ℕ, zero, suc, ◌+◌, ◌<◌, ◌�
 use Rattle.std.specs.Prelude.{◌==◌, map, take, drop, option_map}
 use Rattle.std.specs.Option.{option_map_or}
 use Rattle.std.proofs.lemmas.Bool.{and_parts, eqb-true}
-use Rattle.std.proofs.lemmas.List.{append-nil, length-append, length-map, length-drop}
+use Rattle.std.proofs.lemmas.List.{length-append, length-map, length-drop}
 use Rattle.keep_base.specs.Lines.{IsNext}
-use Rattle.std.specs.Io.KnownBytes.{prepend_known, Keeps as Remains}
+use Rattle.std.proofs.KnownBytes.{Appends-kept, Appends-nil}
+use Rattle.std.specs.Io.KnownBytes.{Appends, prepend_known, Keeps as Remains}
 use Rattle.keep_base.specs.declared.lines.Line.{Line}
 use Rattle.keep_base.specs.declared.lines.LineError.{LineError}
 use Rattle.keep_base.specs.declared.lines.LineError.TheVariants as E
@@ -312,7 +313,11 @@ module _ (starts : List Kept) (whole rest : List ℕ) (c : Configuration) (taken
 
 -- ---- over the stores
 
-module _ {S : Type 0} (told : S → Told) (c : Configuration) (whole rest t : List ℕ) (starts : List Kept) (taken : ℕ) (old : List S)
+-- where nothing was done, the text of nothing was appended
+unwritten : (before written : Option (List ℕ)) → Remains before written → Appends before written []
+unwritten before written k = Appends-kept before before written [] (Appends-nil before) k
+
+module _ {S : Type 0} (told : S → Told) (c : Configuration) (whole rest : List ℕ) (starts : List Kept) (taken : ℕ) (old : List S)
     (h : HasBegun (length (map told old)) whole rest c taken) (tell : FirstTell (length c.devices) (map told old) starts) where
   many-starts : length (map told old) ≡ length starts
   many-starts = tell-many (length c.devices) (map told old) starts tell
@@ -344,9 +349,9 @@ module _ {S : Type 0} (told : S → Told) (c : Configuration) (whole rest t : Li
           let s : length old ≡ length starts = sym (length-map old told) ∙ many-starts in
           length-map left told ∙ (omega (arith, o, s, n, many, opened.many) ∙ sym (length-drop (length ss) starts))
 
-      pub ran-lines : (status : Status) (unread : Option (List ℕ)) (world : Option World) (written : Option (List ℕ)) → ((w : World) → world ≡ Some w → states_of ds' ≡ Some w.devices)
-          → LinesRan c (beginning taken 1 rest) status unread (faults_at ds) (faults_at ds') world t written → StoresRan (map told old) (map told new) whole t starts status unread written
-      ran-lines status unread world written devices r =
+      pub ran-lines : (status : Status) (unread : Option (List ℕ)) (world : Option World) (before written : Option (List ℕ)) → ((w : World) → world ≡ Some w → states_of ds' ≡ Some w.devices)
+          → LinesRan c (beginning taken 1 rest) status unread (faults_at ds) (faults_at ds') world before written → StoresRan (map told old) (map told new) whole before starts status unread written
+      ran-lines status unread world before written devices r =
           let known = devices r.did.world r.world_is in
           let n = states-many ds' r.did.world.devices known in
           record {
@@ -361,11 +366,11 @@ module _ {S : Type 0} (told : S → Told) (c : Configuration) (whole rest t : Li
             };
           }
 
-  pub ran-refused : (new : List S) (status : Status) (unread : Option (List ℕ)) (written : Option (List ℕ)) → AllPairs IsSame (map told old) (map told new) → AreRefused (length c.devices) status (map told old) (map told new) → written ≡ Some t → StoresRan (map told old) (map told new) whole t starts status unread written
-  ran-refused new status unread written same r w = record {
+  pub ran-refused : (new : List S) (status : Status) (unread before written : Option (List ℕ)) → AllPairs IsSame (map told old) (map told new) → AreRefused (length c.devices) status (map told old) (map told new) → Remains before written → StoresRan (map told old) (map told new) whole before starts status unread written
+  ran-refused new status unread before written same r w = record {
     work = work_of starts None;
     keep = rw devices-old (same-keep (length c.devices) (map told old) (map told new) starts same tell);
-    written_is = w ∙ ap Some (sym (append-nil t));
+    written_is = unwritten before written w;
     ran = record {
       failed = [];
       failed_are = refl;
@@ -376,27 +381,27 @@ module _ {S : Type 0} (told : S → Told) (c : Configuration) (whole rest t : Li
 
 -- ---- where no first line is a configuration
 
-module _ {S : Type 0} (told : S → Told) (bytes t : List ℕ) (starts : List Kept) (old : List S) (tell : FirstTell (devices_in (length (map told old)) bytes) (map told old) starts) where
+module _ {S : Type 0} (told : S → Told) (bytes : List ℕ) (before : Option (List ℕ)) (starts : List Kept) (old : List S) (tell : FirstTell (devices_in (length (map told old)) bytes) (map told old) starts) where
   many : length (map told old) ≡ length starts
   many = tell-many (devices_in (length (map told old)) bytes) (map told old) starts tell
 
   -- nothing is done
-  nothing-ran : (status : Status) (unread : Option (List ℕ)) (written : Option (List ℕ)) → written ≡ Some t → HowEnded status [] starts bytes unread (work_of starts None) → StoresRan (map told old) (map told old) bytes t starts status unread written
+  nothing-ran : (status : Status) (unread : Option (List ℕ)) (written : Option (List ℕ)) → Remains before written → HowEnded status [] starts bytes unread (work_of starts None) → StoresRan (map told old) (map told old) bytes before starts status unread written
   nothing-ran status unread written w how = record {
     work = work_of starts None;
     keep = same-keep (devices_in (length (map told old)) bytes) (map told old) (map told old) starts (same-all told old) tell;
-    written_is = w ∙ ap Some (sym (append-nil t));
+    written_is = unwritten before written w;
     ran = record { failed = []; failed_are = refl; rises = same-rises 0 (map told old) (map told old) (same-all told old); how = how };
   }
 
-  pub ran-none : (unread : Option (List ℕ)) (written : Option (List ℕ)) → written ≡ Some t → bytes ≡ [] → StoresRan (map told old) (map told old) bytes t starts (St.BadConfig F.Line) unread written
+  pub ran-none : (unread : Option (List ℕ)) (written : Option (List ℕ)) → Remains before written → bytes ≡ [] → StoresRan (map told old) (map told old) bytes before starts (St.BadConfig F.Line) unread written
   unfolding run_of cut
   ran-none unread written w none = nothing-ran (St.BadConfig F.Line) unread written w (rw none (refl, refl))
 
-  pub ran-memory : (unread : Option (List ℕ)) (written : Option (List ℕ)) → written ≡ Some t → StoresRan (map told old) (map told old) bytes t starts St.NoMemory unread written
+  pub ran-memory : (unread : Option (List ℕ)) (written : Option (List ℕ)) → Remains before written → StoresRan (map told old) (map told old) bytes before starts St.NoMemory unread written
   ran-memory unread written w = nothing-ran St.NoMemory unread written w (inl (record { lines = 0; did = None; are_done = refl; work_is = refl }))
 
-  pub ran-unread : (ahead left : List ℕ) (unread : Option (List ℕ)) (written : Option (List ℕ)) → written ≡ Some t → bytes ≡ ahead ++ left → newlines ahead ≡ 0 → unread ≡ Some left → StoresRan (map told old) (map told old) bytes t starts St.ReadFault unread written
+  pub ran-unread : (ahead left : List ℕ) (unread : Option (List ℕ)) (written : Option (List ℕ)) → Remains before written → bytes ≡ ahead ++ left → newlines ahead ≡ 0 → unread ≡ Some left → StoresRan (map told old) (map told old) bytes before starts St.ReadFault unread written
   ran-unread ahead left unread written w parts none u =
       nothing-ran St.ReadFault unread written w (left, (u, record { lines = 0; are_read = record { read = ahead; parts = parts; whole = inl (sym none) }; did = None; are_done = refl; work_is = refl }))
 
@@ -404,14 +409,14 @@ module _ {S : Type 0} (told : S → Told) (bytes t : List ℕ) (starts : List Ke
   unfolding run_of
   from-judged status piece rest first e = rw (first, e) (refl, refl)
 
-  pub ran-long : (n : ℕ) (unread : Option (List ℕ)) (written : Option (List ℕ)) (piece : List ℕ) (rest : List (List ℕ)) → written ≡ Some t → n ≡ 1 → cut bytes ≡ piece ∷ rest → verdict_on 0 piece ≡ line_too_long → StoresRan (map told old) (map told old) bytes t starts (St.LineTooLong n) unread written
+  pub ran-long : (n : ℕ) (unread : Option (List ℕ)) (written : Option (List ℕ)) (piece : List ℕ) (rest : List (List ℕ)) → Remains before written → n ≡ 1 → cut bytes ≡ piece ∷ rest → verdict_on 0 piece ≡ line_too_long → StoresRan (map told old) (map told old) bytes before starts (St.LineTooLong n) unread written
   ran-long n unread written piece rest w one first v =
       nothing-ran (St.LineTooLong n) unread written w (from-judged (St.LineTooLong n) piece rest first (rw (v, one) refl))
 
-  pub ran-large : (unread : Option (List ℕ)) (written : Option (List ℕ)) (piece : List ℕ) (rest : List (List ℕ)) → written ≡ Some t → cut bytes ≡ piece ∷ rest → verdict_on 0 piece ≡ input_too_long → StoresRan (map told old) (map told old) bytes t starts St.InputTooLong unread written
+  pub ran-large : (unread : Option (List ℕ)) (written : Option (List ℕ)) (piece : List ℕ) (rest : List (List ℕ)) → Remains before written → cut bytes ≡ piece ∷ rest → verdict_on 0 piece ≡ input_too_long → StoresRan (map told old) (map told old) bytes before starts St.InputTooLong unread written
   ran-large unread written piece rest w first v = nothing-ran St.InputTooLong unread written w (from-judged St.InputTooLong piece rest first (rw v refl))
 
-  pub ran-misfit : (status : Status) (unread : Option (List ℕ)) (written : Option (List ℕ)) (piece : List ℕ) (rest : List (List ℕ)) → written ≡ Some t → cut bytes ≡ piece ∷ rest → verdict_on 0 piece ≡ fits → IsConfigRefusal status (config_for (length (map told old)) (text_of piece)) → StoresRan (map told old) (map told old) bytes t starts status unread written
+  pub ran-misfit : (status : Status) (unread : Option (List ℕ)) (written : Option (List ℕ)) (piece : List ℕ) (rest : List (List ℕ)) → Remains before written → cut bytes ≡ piece ∷ rest → verdict_on 0 piece ≡ fits → IsConfigRefusal status (config_for (length (map told old)) (text_of piece)) → StoresRan (map told old) (map told old) bytes before starts status unread written
   ran-misfit (St.BadConfig field) unread written piece rest w first v r =
       nothing-ran (St.BadConfig field) unread written w (from-judged (St.BadConfig field) piece rest first (rw (v, ap (λ n. config_for n (text_of piece)) (sym many) ∙ r) refl))
   ran-misfit St.NoMemory unread written piece rest w first v r = ran-memory unread written w
@@ -484,37 +489,37 @@ given-begun n taken' (Some rest) line bytes c g e = (
   ),
 )
 
-module _ {S : Type 0} (told : S → Told) (bytes t : List ℕ) (starts : List Kept) (old : List S) (n : ℕ) (many-old : n ≡ length old) (tell : FirstTell (devices_in n bytes) (map told old) starts) where
+module _ {S : Type 0} (told : S → Told) (bytes : List ℕ) (before : Option (List ℕ)) (starts : List Kept) (old : List S) (n : ℕ) (many-old : n ≡ length old) (tell : FirstTell (devices_in n bytes) (map told old) starts) where
   told-n : n ≡ length (map told old)
   told-n = many-old ∙ sym (length-map old told)
 
   tell-told : FirstTell (devices_in (length (map told old)) bytes) (map told old) starts
   tell-told = subst (λ k. FirstTell (devices_in k bytes) (map told old) starts) told-n tell
 
-  pub read-none : (unread : Option (List ℕ)) (written : Option (List ℕ)) → written ≡ Some t → bytes ≡ [] → StoresRan (map told old) (map told old) bytes t starts (St.BadConfig F.Line) unread written
-  read-none unread written w e = ran-none told bytes t starts old tell-told unread written w e
+  pub read-none : (unread : Option (List ℕ)) (written : Option (List ℕ)) → Remains before written → bytes ≡ [] → StoresRan (map told old) (map told old) bytes before starts (St.BadConfig F.Line) unread written
+  read-none unread written w e = ran-none told bytes before starts old tell-told unread written w e
 
-  unread-parts : (ahead : List ℕ) (unread written : Option (List ℕ)) → written ≡ Some t → Remains (Some bytes) (prepend_known ahead unread) → newlines ahead ≡ 0 → StoresRan (map told old) (map told old) bytes t starts St.ReadFault unread written
+  unread-parts : (ahead : List ℕ) (unread written : Option (List ℕ)) → Remains before written → Remains (Some bytes) (prepend_known ahead unread) → newlines ahead ≡ 0 → StoresRan (map told old) (map told old) bytes before starts St.ReadFault unread written
   unread-parts ahead None written w p e = absurd p
-  unread-parts ahead (Some left) written w p e = ran-unread told bytes t starts old tell-told ahead left (Some left) written w (sym p) e refl
+  unread-parts ahead (Some left) written w p e = ran-unread told bytes before starts old tell-told ahead left (Some left) written w (sym p) e refl
 
-  pub read-error : (error : LineError) (ahead : List ℕ) (unread written : Option (List ℕ)) (taken' : ℕ) (left' : Option (List ℕ)) → written ≡ Some t → IsNext 0 0 (Some bytes) (Err error) taken' left'
-      → (error ≡ E.ReadFault → Remains (Some bytes) (prepend_known ahead unread) × (newlines ahead ≡ 0)) → StoresRan (map told old) (map told old) bytes t starts (status_of_line error) unread written
+  pub read-error : (error : LineError) (ahead : List ℕ) (unread written : Option (List ℕ)) (taken' : ℕ) (left' : Option (List ℕ)) → Remains before written → IsNext 0 0 (Some bytes) (Err error) taken' left'
+      → (error ≡ E.ReadFault → Remains (Some bytes) (prepend_known ahead unread) × (newlines ahead ≡ 0)) → StoresRan (map told old) (map told old) bytes before starts (status_of_line error) unread written
   read-error E.ReadFault ahead unread written taken' left' w next r = let p = r refl in unread-parts ahead unread written w p.0 p.1
-  read-error (E.LineTooLong k) ahead unread written taken' left' w (is, (piece, (rest, (first, v)))) r = ran-long told bytes t starts old tell-told k unread written piece rest w is first v
-  read-error E.InputTooLong ahead unread written taken' left' w (piece, (rest, (first, v))) r = ran-large told bytes t starts old tell-told unread written piece rest w first v
-  read-error E.NoMemory ahead unread written taken' left' w next r = ran-memory told bytes t starts old tell-told unread written w
+  read-error (E.LineTooLong k) ahead unread written taken' left' w (is, (piece, (rest, (first, v)))) r = ran-long told bytes before starts old tell-told k unread written piece rest w is first v
+  read-error E.InputTooLong ahead unread written taken' left' w (piece, (rest, (first, v))) r = ran-large told bytes before starts old tell-told unread written piece rest w first v
+  read-error E.NoMemory ahead unread written taken' left' w next r = ran-memory told bytes before starts old tell-told unread written w
 
-  pub read-misfit : (status : Status) (unread written : Option (List ℕ)) (taken' : ℕ) (left' : Option (List ℕ)) (line : Line) → written ≡ Some t → IsNext 0 0 (Some bytes) (Ok (Some line)) taken' left' → IsConfigRefusal status (config_for n line.text) → StoresRan (map told old) (map told old) bytes t starts status unread written
+  pub read-misfit : (status : Status) (unread written : Option (List ℕ)) (taken' : ℕ) (left' : Option (List ℕ)) (line : Line) → Remains before written → IsNext 0 0 (Some bytes) (Ok (Some line)) taken' left' → IsConfigRefusal status (config_for n line.text) → StoresRan (map told old) (map told old) bytes before starts status unread written
   read-misfit status unread written taken' None line w g r = absurd g
   read-misfit status unread written taken' (Some rest) line w g r =
-      ran-misfit told bytes t starts old tell-told status unread written g.piece (cut rest) w g.first (subst (λ x. verdict_of 1048576 1073741824 0 (length x) (length g.piece) ≡ fits) g.text_is g.fits_in)
+      ran-misfit told bytes before starts old tell-told status unread written g.piece (cut rest) w g.first (subst (λ x. verdict_of 1048576 1073741824 0 (length x) (length g.piece) ≡ fits) g.text_is g.fits_in)
       (subst (λ k. IsConfigRefusal status (config_for k (text_of g.piece))) told-n (subst (λ x. IsConfigRefusal status (config_for n x)) g.text_is r))
 
 -- ---- a whole script
 
-pub whole-ran : (old new : List Told) (bytes t : List ℕ) (starts : List Kept) (status : Status) (unread written : Option (List ℕ)) → StoresRan old new bytes t starts status unread written → RanWhole old new bytes t starts status unread written
-whole-ran old new bytes t starts status unread written r = record {
+pub whole-ran : (old new : List Told) (bytes : List ℕ) (before : Option (List ℕ)) (starts : List Kept) (status : Status) (unread written : Option (List ℕ)) → StoresRan old new bytes before starts status unread written → RanWhole old new bytes before starts status unread written
+whole-ran old new bytes before starts status unread written r = record {
   ran = r;
   whole = λ s. ends-whole status (faulty r.work.made) starts bytes unread r.work s (subst (λ f. HowEnded status f starts bytes unread r.work) r.ran.failed_are r.ran.how);
 }

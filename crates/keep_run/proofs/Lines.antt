@@ -1,8 +1,9 @@
 -- What a line does, from what its command does: `empty-told`, `bad-told` and `memory-told` before there is a command; `written-told`, `stopped-told` and `refused-told` after it.
-use Rattle.std.proofs.Common.{◌≡◌, ◌≢◌, ℕ, ◌+◌, Bool, true, false, List, [], ◌∷◌, ◌++◌, length, take, Option, None, Some, Ok, Err, Result, inl, inr, refl, sym, ◌∙◌, ap, subst, arith}
+use Rattle.std.proofs.Common.{◌≡◌, ◌≢◌, ℕ, ◌+◌, Bool, true, false, List, [], ◌∷◌, ◌++◌, length, Option, None, Some, Ok, Err, Result, inl, inr, refl, sym, ◌∙◌, ap, subst, arith}
 use Rattle.std.specs.Prelude.{option_and_then}
-use Rattle.std.proofs.lemmas.List.{append-nil}
+use Rattle.std.proofs.KnownBytes.{Appends-nil, Keeps-refl}
 use Rattle.std.specs.Io.KnownBytes.{Appends}
+use Rattle.keep_base.specs.Sources.{AppendsPrefix}
 use Rattle.keep_base.specs.declared.lines.Line.{Line}
 use Rattle.keep_spec.specs.Config.{Configuration}
 use Rattle.keep_spec.specs.declared.status.Status.{Status}
@@ -45,7 +46,7 @@ module _ (config : Configuration) (line : Line) {S : Type 0} (old : Stage S) whe
   same-made n = omega arith
 
   pub empty-told : (written : Option (List ℕ)) → line.text ≡ [] → IsLineDone config line old old written written (Ok tt)
-  empty-told written e scene t sc w = (
+  empty-told written e scene sc = (
     record {
       effect = no_event scene [];
       is = λ others agree. effect-empty config others scene line.text e;
@@ -54,15 +55,15 @@ module _ (config : Configuration) (line : Line) {S : Type 0} (old : Stage S) whe
       rise = rise-none _ _ (λ device. omega arith);
       scene_is = sc;
     },
-    (refl, w ∙ ap Some (sym (append-nil t))),
+    (refl, Appends-nil written),
   )
 
   pub bad-told : (n : ℕ) (written : Option (List ℕ)) → n ≡ line.number → line.text ≢ [] → command_of config (seen_names old.names.entries) line.text ≡ None → IsLineDone config line old old written written (Err (St.BadLine n))
-  bad-told n written number some e scene t sc w =
-      (number, (record { none = λ failed. effect-of config failed scene line.text None some (reads scene None sc e); stays = sc.world }, w))
+  bad-told n written number some e scene sc =
+      (number, (record { none = λ failed. effect-of config failed scene line.text None some (reads scene None sc e); stays = sc.world }, Keeps-refl written))
 
   pub memory-told : (written : Option (List ℕ)) → IsLineDone config line old old written written (Err St.NoMemory)
-  memory-told written scene t sc w = (inl sc.world, w)
+  memory-told written scene sc = (inl sc.world, Keeps-refl written)
 
   module _ (new : Stage S) (command : Command) (some : line.text ≢ []) (e : command_of config (seen_names old.names.entries) line.text ≡ Some command) where
     abbrev does : Scene → List ℕ → Option Effect
@@ -81,37 +82,29 @@ module _ (config : Configuration) (line : Line) {S : Type 0} (old : Stage S) whe
       scene_is = d.scene_is;
     }
 
-    appended : (before written : Option (List ℕ)) (bytes text t : List ℕ) → Appends before written bytes → before ≡ Some t → bytes ≡ text → written ≡ Some (t ++ text)
-    appended None written bytes text t a b g = absurd cc
-    appended (Some x) None bytes text t a b g = absurd a
-    appended (Some x) (Some y) bytes text t a b g = ap Some (a ∙ ap (λ v. v ++ bytes) (same-list b) ∙ ap (λ v. t ++ v) g)
-      where
-        same-list : Some x ≡ Some t → x ≡ t
-        same-list b = cc
-
-    written-by : (spent : Bool) (scene : Scene) (t : List ℕ) (before written : Option (List ℕ)) (out_before out : List ℕ) (r : Result (Unit {0}) Status) → IsSceneOf config old scene → before ≡ Some t → out_before ≡ [] → HasPrinted config scene old new out_before out spent (does scene) → IsWritten spent before written out r → line_done_by config line.number scene old new t written r (f scene)
+    written-by : (spent : Bool) (scene : Scene) (before written : Option (List ℕ)) (out_before out : List ℕ) (r : Result (Unit {0}) Status) → IsSceneOf config old scene → out_before ≡ [] → HasPrinted config scene old new out_before out spent (does scene) → IsWritten spent before written out r → line_done_by config line.number scene old new before written r (f scene)
     unfolding line-effect
-    written-by spent scene t before written out_before out (Ok done) sc b nil h (not_spent, a) =
-        (line-effect scene sc h.done, (h.spent_is ∙ not_spent, appended before written out h.done.effect.text t a b (h.out_is ∙ ap (λ v. v ++ h.done.effect.text) nil)))
-    written-by spent scene t before written out_before out (Err St.PortFault) sc b nil h (is_spent, a) =
-        (line-effect scene sc h.done, (h.spent_is ∙ is_spent, appended before written out h.done.effect.text t a b (h.out_is ∙ ap (λ v. v ++ h.done.effect.text) nil)))
-    written-by spent scene t before written out_before out (Err St.WriteFault) sc b nil h (k, within, a) =
-        (line-effect scene sc h.done, (k, appended before written (take k out) (take k h.done.effect.text) t a b (ap (take k) (h.out_is ∙ ap (λ v. v ++ h.done.effect.text) nil))))
-    written-by spent scene t before written out_before out (Err other) sc b nil h a = absurd a
+    written-by spent scene before written out_before out (Ok done) sc nil h (not_spent, a) =
+        (line-effect scene sc h.done, (h.spent_is ∙ not_spent, subst (Appends before written) (h.out_is ∙ ap (λ v. v ++ h.done.effect.text) nil) a))
+    written-by spent scene before written out_before out (Err St.PortFault) sc nil h (is_spent, a) =
+        (line-effect scene sc h.done, (h.spent_is ∙ is_spent, subst (Appends before written) (h.out_is ∙ ap (λ v. v ++ h.done.effect.text) nil) a))
+    written-by spent scene before written out_before out (Err St.WriteFault) sc nil h a =
+        (line-effect scene sc h.done, subst (AppendsPrefix before written) (h.out_is ∙ ap (λ v. v ++ h.done.effect.text) nil) a)
+    written-by spent scene before written out_before out (Err other) sc nil h a = absurd a
 
     -- the text was written, or a beginning of it
     pub whole-told : (before written : Option (List ℕ)) (out_before out bytes : List ℕ) (r : Result (Unit {0}) Status) → out_before ≡ [] → bytes ≡ out → IsCommandDone config command old new out_before out D.Whole → IsWritten false before written bytes r → IsLineDone config line old new before written r
-    whole-told before written out_before out bytes r nil same_bytes d w scene t sc b =
-        written-by false scene t before written out_before out r sc b nil (d scene sc) (subst (λ v. IsWritten false before written v r) same_bytes w)
+    whole-told before written out_before out bytes r nil same_bytes d w scene sc =
+        written-by false scene before written out_before out r sc nil (d scene sc) (subst (λ v. IsWritten false before written v r) same_bytes w)
 
     pub spent-told : (before written : Option (List ℕ)) (out_before out bytes : List ℕ) (r : Result (Unit {0}) Status) → out_before ≡ [] → bytes ≡ out → IsCommandDone config command old new out_before out D.Spent → IsWritten true before written bytes r → IsLineDone config line old new before written r
-    spent-told before written out_before out bytes r nil same_bytes d w scene t sc b =
-        written-by true scene t before written out_before out r sc b nil (d scene sc) (subst (λ v. IsWritten true before written v r) same_bytes w)
+    spent-told before written out_before out bytes r nil same_bytes d w scene sc =
+        written-by true scene before written out_before out r sc nil (d scene sc) (subst (λ v. IsWritten true before written v r) same_bytes w)
 
     pub refused-told : (n : ℕ) (written : Option (List ℕ)) (out_before out : List ℕ) → n ≡ line.number → IsCommandDone config command old new out_before out D.Refused → IsLineDone config line old new written written (Err (St.BadLine n))
-    refused-told n written out_before out number d scene t sc w =
+    refused-told n written out_before out number d scene sc =
         let r = d scene sc in
-        (number, (record { none = λ failed. same scene sc failed ∙ r.none failed; stays = r.stays }, w))
+        (number, (record { none = λ failed. same scene sc failed ∙ r.none failed; stays = r.stays }, Keeps-refl written))
 
     part-line : (scene : Scene) → IsSceneOf config old scene → PartDone scene old.cluster new.cluster (does scene) → PartDone scene old.cluster new.cluster (f scene)
     part-line scene sc p = record {
@@ -123,7 +116,7 @@ module _ (config : Configuration) (line : Line) {S : Type 0} (old : Stage S) whe
     }
 
     pub stopped-told : (written : Option (List ℕ)) → IsCommandStopped config command old new → IsLineDone config line old new written written (Err St.NoMemory)
-    stopped-told written d scene t sc w = (by (d scene sc), w)
+    stopped-told written d scene sc = (by (d scene sc), Keeps-refl written)
       where
         by : IsStopped scene old.cluster new.cluster (does scene) → IsStopped scene old.cluster new.cluster (f scene)
         by (inl stays) = inl stays

@@ -1,7 +1,9 @@
 -- A run, one line after another: `going-start` and `going-more` for the lines so far; `ran-done`, `ran-error` and `ran-line` for its ends.
-use Rattle.std.proofs.Common.{◌≡◌, ◌≤◌, ℕ, suc, ◌+◌, true, false, List, [], ◌∷◌, ◌++◌, length, take, Option, None, Some, Ok, Err, inl, inr, refl, sym, ◌∙◌, ap, subst, arith, append_assoc, length-append}
+use Rattle.std.proofs.Common.{◌≡◌, ◌≤◌, ℕ, suc, ◌+◌, true, false, List, [], ◌∷◌, ◌++◌, length, take, Option, None, Some, Ok, Err, inl, inr, refl, sym, ◌∙◌, ap, subst, arith, length-append}
 use Rattle.std.proofs.lemmas.List.{append-nil}
-use Rattle.std.specs.Io.KnownBytes.{Keeps, IsAtEnd, prepend_known}
+use Rattle.std.proofs.KnownBytes.{Appends-kept, Appends-nil, Appends-trans}
+use Rattle.std.specs.Io.KnownBytes.{Appends, Keeps, IsAtEnd, prepend_known}
+use Rattle.keep_base.specs.Sources.{AppendsPrefix}
 use Rattle.keep_base.specs.Lines.{IsNext, IsGiven, IsNextJudged}
 use Rattle.keep_base.specs.declared.lines.Line.{Line}
 use Rattle.keep_base.specs.declared.lines.LineError.{LineError}
@@ -35,14 +37,14 @@ no-some x e = cc
 plus-none : (n : ℕ) → n ≡ n + 0
 plus-none n = omega arith
 
-pub going-start : {S : Type 0} (config : Configuration) (taken number : ℕ) (bytes : List ℕ) (left : Option (List ℕ)) (stage : Stage S) (t : List ℕ) (written : Option (List ℕ)) → IsFresh config stage → left ≡ Some bytes → world_of stage.cluster ≡ Some (new_world config) → written ≡ Some t → Going config (beginning taken number bytes) taken number left stage stage t written
-going-start config taken number bytes left stage t written fresh l told w = record {
+pub going-start : {S : Type 0} (config : Configuration) (taken number : ℕ) (bytes : List ℕ) (left : Option (List ℕ)) (stage : Stage S) (out : Option (List ℕ)) → IsFresh config stage → left ≡ Some bytes → world_of stage.cluster ≡ Some (new_world config) → Going config (beginning taken number bytes) taken number left stage stage out out
+going-start config taken number bytes left stage out fresh l told = record {
   lines = 0;
   rest = bytes;
   sofar = at_start config;
   left_is = l;
   scene_is = record { count = sym fresh.made; world = told; names = subst (λ names. AreStates config names []) (sym fresh.names) tt };
-  written_is = w ∙ ap Some (sym (append-nil t));
+  written_is = Appends-nil out;
   numbered = tt;
   count_is = refl;
   rise = rise-none _ _ (λ device. omega arith);
@@ -65,7 +67,7 @@ given_of : (taken number taken' : ℕ) (rest : List ℕ) (line : Line) (left' : 
 given_of taken number taken' rest line None h = absurd h
 given_of taken number taken' rest line (Some rest') h = record { rest' = rest'; left_is = refl; given = h }
 
-module _ {S : Type 0} (config : Configuration) (b : Beginning) (old mid : Stage S) (t : List ℕ) (taken number : ℕ) (left : Option (List ℕ)) (out : Option (List ℕ)) (g : Going config b taken number left old mid t out) where
+module _ {S : Type 0} (config : Configuration) (b : Beginning) (old mid : Stage S) (before : Option (List ℕ)) (taken number : ℕ) (left : Option (List ℕ)) (out : Option (List ℕ)) (g : Going config b taken number left old mid before out) where
   abbrev sofar : Progress
   sofar = g.sofar
 
@@ -100,11 +102,14 @@ module _ {S : Type 0} (config : Configuration) (b : Beginning) (old mid : Stage 
       rise-here : (made : List Made) → Rise made (faults_at mid.cluster.devices) (faults_at new.cluster.devices) → Rise (sofar.made ++ made) (faults_at old.cluster.devices) (faults_at new.cluster.devices)
       rise-here made h = rise-append sofar.made made (faults_at old.cluster.devices) (faults_at mid.cluster.devices) (faults_at new.cluster.devices) g.rise h never_fall
 
-      joined-out : (o : List ℕ) (out' : Option (List ℕ)) → out' ≡ Some ((t ++ sofar.text) ++ o) → out' ≡ Some (t ++ (sofar.text ++ o))
-      joined-out o out' e = e ∙ ap Some (append_assoc t sofar.text o)
+      joined-out : (o : List ℕ) (out' : Option (List ℕ)) → Appends out out' o → Appends before out' (sofar.text ++ o)
+      joined-out o out' a = Appends-trans before out out' sofar.text o g.written_is a
+
+      same-out : (out' : Option (List ℕ)) → Keeps out out' → Appends before out' sofar.text
+      same-out out' k = Appends-kept before out out' sofar.text g.written_is k
 
       -- the line was done, and the next is to come
-      pub more-by : (number' : ℕ) (out' : Option (List ℕ)) (d : HasEffect config sofar.scene mid new (λ failed. effect_of_line config failed sofar.scene line.text)) → number' ≡ number + 1 → d.effect.spent ≡ false → out' ≡ Some ((t ++ sofar.text) ++ d.effect.text) → Going config b taken' number' left' old new t out'
+      pub more-by : (number' : ℕ) (out' : Option (List ℕ)) (d : HasEffect config sofar.scene mid new (λ failed. effect_of_line config failed sofar.scene line.text)) → number' ≡ number + 1 → d.effect.spent ≡ false → Appends out out' d.effect.text → Going config b taken' number' left' old new before out'
       more-by number' out' d num not_spent o =
           let e = d.effect in
           let does : (others : List ℕ) → Agrees others (sofar.made ++ e.made) → effect_of_line config others sofar.scene (text_of piece) ≡ Some e =
@@ -136,21 +141,21 @@ module _ {S : Type 0} (config : Configuration) (b : Beginning) (old mid : Stage 
           one-more n k = omega arith
 
       abbrev RanNow : Status → Option (List ℕ) → Option (List ℕ) → Type 0
-      RanNow status unread out' = LinesRan config b status unread (faults_at old.cluster.devices) (faults_at new.cluster.devices) (world_of new.cluster) t out'
+      RanNow status unread out' = LinesRan config b status unread (faults_at old.cluster.devices) (faults_at new.cluster.devices) (world_of new.cluster) before out'
 
       -- ---- a line that ended the run
 
       abbrev does_here : List ℕ → Option Effect
       does_here failed = effect_of_line config failed sofar.scene line.text
 
-      ran-bad : (n : ℕ) (unread out' : Option (List ℕ)) → n ≡ number + 1 → IsRefused sofar.scene new.cluster does_here → out' ≡ Some (t ++ sofar.text) → RanNow (St.BadLine n) unread out'
+      ran-bad : (n : ℕ) (unread out' : Option (List ℕ)) → n ≡ number + 1 → IsRefused sofar.scene new.cluster does_here → Keeps out out' → RanNow (St.BadLine n) unread out'
       ran-bad n unread out' num r o =
           let agree = agrees-faulty 0 sofar.made g.numbered in
           let F = faulty sofar.made in
           record {
             did = did_by sofar;
             world_is = r.stays;
-            written_is = o;
+            written_is = same-out out' o;
             rise = subst (λ ms. Rise ms (faults_at old.cluster.devices) (faults_at new.cluster.devices)) (append-nil sofar.made) (rise-here [] (rise-none _ _ never_fall));
             how = record {
               progress = sofar;
@@ -187,7 +192,7 @@ module _ {S : Type 0} (config : Configuration) (b : Beginning) (old mid : Stage 
         does-all : does_here (faulty all) ≡ Some e
         does-all = d.is (faulty all) (Agrees-right (faulty all) sofar.made e.made agrees-all)
 
-        ran-spent : (unread out' : Option (List ℕ)) → e.spent ≡ true → out' ≡ Some ((t ++ sofar.text) ++ e.text) → RanNow St.PortFault unread out'
+        ran-spent : (unread out' : Option (List ℕ)) → e.spent ≡ true → Appends out out' e.text → RanNow St.PortFault unread out'
         ran-spent unread out' spent o = record {
           did = did_by (and_then sofar e);
           world_is = d.scene_is.world;
@@ -200,9 +205,9 @@ module _ {S : Type 0} (config : Configuration) (b : Beginning) (old mid : Stage 
           };
         }
 
-        ran-unwritten : (k : ℕ) (unread out' : Option (List ℕ)) → out' ≡ Some ((t ++ sofar.text) ++ take k e.text) → RanNow St.WriteFault unread out'
+        ran-unwritten : (unread out' : Option (List ℕ)) → AppendsPrefix out out' e.text → RanNow St.WriteFault unread out'
         unfolding more-of
-        ran-unwritten k unread out' o = record {
+        ran-unwritten unread out' (k, within, o) = record {
           did = record { made = all; world = e.scene.world; text = sofar.text ++ take k e.text };
           world_is = d.scene_is.world;
           written_is = joined-out (take k e.text) out' o;
@@ -210,16 +215,16 @@ module _ {S : Type 0} (config : Configuration) (b : Beginning) (old mid : Stage 
           how = record { more = more-of (faulty all) e agrees-sofar does-all; count = k; did_is = refl };
         }
 
-      ran-between : (unread out' : Option (List ℕ)) → world_of new.cluster ≡ Some sofar.scene.world → out' ≡ Some (t ++ sofar.text) → RanNow St.NoMemory unread out'
+      ran-between : (unread out' : Option (List ℕ)) → world_of new.cluster ≡ Some sofar.scene.world → Keeps out out' → RanNow St.NoMemory unread out'
       ran-between unread out' same o = record {
         did = did_by sofar;
         world_is = same;
-        written_is = o;
+        written_is = same-out out' o;
         rise = subst (λ ms. Rise ms (faults_at old.cluster.devices) (faults_at new.cluster.devices)) (append-nil sofar.made) (rise-here [] (rise-none _ _ never_fall));
         how = inl (g.lines, record { place = place_at taken sofar (cut g.rest); comes_to = g.comes (faulty sofar.made) (agrees-faulty 0 sofar.made g.numbered); did_is = refl });
       }
 
-      ran-part : (unread out' : Option (List ℕ)) → PartDone sofar.scene mid.cluster new.cluster does_here → out' ≡ Some (t ++ sofar.text) → RanNow St.NoMemory unread out'
+      ran-part : (unread out' : Option (List ℕ)) → PartDone sofar.scene mid.cluster new.cluster does_here → Keeps out out' → RanNow St.NoMemory unread out'
       unfolding more-of
       ran-part unread out' p o =
           let all = sofar.made ++ p.made in
@@ -229,7 +234,7 @@ module _ {S : Type 0} (config : Configuration) (b : Beginning) (old mid : Stage 
           record {
             did = record { made = all; world = left_after sofar.scene.world p.made; text = sofar.text };
             world_is = p.world_is;
-            written_is = o;
+            written_is = same-out out' o;
             rise = rise-here p.made p.rise;
             how = inr (record {
               more = more-of F q.0 (Agrees-left F sofar.made p.made agree) q.1.0;
@@ -238,14 +243,14 @@ module _ {S : Type 0} (config : Configuration) (b : Beginning) (old mid : Stage 
             });
           }
 
-      ran-stopped : (unread out' : Option (List ℕ)) → IsStopped sofar.scene mid.cluster new.cluster does_here → out' ≡ Some (t ++ sofar.text) → RanNow St.NoMemory unread out'
+      ran-stopped : (unread out' : Option (List ℕ)) → IsStopped sofar.scene mid.cluster new.cluster does_here → Keeps out out' → RanNow St.NoMemory unread out'
       ran-stopped unread out' (inl same) o = ran-between unread out' same o
       ran-stopped unread out' (inr p) o = ran-part unread out' p o
 
-      ran-by : (status : Status) (unread out' : Option (List ℕ)) → line.number ≡ number + 1 → line_done_by config line.number sofar.scene mid new (t ++ sofar.text) out' (Err status) does_here → RanNow status unread out'
+      ran-by : (status : Status) (unread out' : Option (List ℕ)) → line.number ≡ number + 1 → line_done_by config line.number sofar.scene mid new out out' (Err status) does_here → RanNow status unread out'
       ran-by (St.BadLine n) unread out' num (is, (r, o)) = ran-bad n unread out' (is ∙ num) r o
       ran-by St.PortFault unread out' num (d, (spent, o)) = ran-spent d unread out' spent o
-      ran-by St.WriteFault unread out' num (d, (k, o)) = ran-unwritten d k unread out' o
+      ran-by St.WriteFault unread out' num (d, o) = ran-unwritten d unread out' o
       ran-by St.NoMemory unread out' num (stopped, o) = ran-stopped unread out' stopped o
       ran-by _ unread out' num h = absurd h
 
@@ -253,20 +258,20 @@ module _ {S : Type 0} (config : Configuration) (b : Beginning) (old mid : Stage 
   next-of taken' left' line next = given_of taken number taken' g.rest line left' (subst (λ o. IsNext taken number o (Ok (Some line)) taken' left') g.left_is next)
 
   -- one line more
-  pub going-more : (taken' number' : ℕ) (left' out' : Option (List ℕ)) (new : Stage S) (line : Line) → IsNext taken number left (Ok (Some line)) taken' left' → number' ≡ number + 1 → ((device : ℕ) → faults_at mid.cluster.devices device ≤ faults_at new.cluster.devices device) → IsLineDone config line mid new out out' (Ok tt) → Going config b taken' number' left' old new t out'
+  pub going-more : (taken' number' : ℕ) (left' out' : Option (List ℕ)) (new : Stage S) (line : Line) → IsNext taken number left (Ok (Some line)) taken' left' → number' ≡ number + 1 → ((device : ℕ) → faults_at mid.cluster.devices device ≤ faults_at new.cluster.devices device) → IsLineDone config line mid new out out' (Ok tt) → Going config b taken' number' left' old new before out'
   going-more taken' number' left' out' new line next num never_fall done =
-      let d = done sofar.scene (t ++ sofar.text) g.scene_is g.written_is in
+      let d = done sofar.scene g.scene_is in
       more-by taken' left' line (next-of taken' left' line next) new never_fall number' out' d.0 num d.1.0 d.1.1
 
   -- the line ended the run
-  pub ran-line : (taken' : ℕ) (left' out' unread : Option (List ℕ)) (new : Stage S) (line : Line) (status : Status) → IsNext taken number left (Ok (Some line)) taken' left' → line.number ≡ number + 1 → ((device : ℕ) → faults_at mid.cluster.devices device ≤ faults_at new.cluster.devices device) → IsLineDone config line mid new out out' (Err status) → LinesRan config b status unread (faults_at old.cluster.devices) (faults_at new.cluster.devices) (world_of new.cluster) t out'
+  pub ran-line : (taken' : ℕ) (left' out' unread : Option (List ℕ)) (new : Stage S) (line : Line) (status : Status) → IsNext taken number left (Ok (Some line)) taken' left' → line.number ≡ number + 1 → ((device : ℕ) → faults_at mid.cluster.devices device ≤ faults_at new.cluster.devices device) → IsLineDone config line mid new out out' (Err status) → LinesRan config b status unread (faults_at old.cluster.devices) (faults_at new.cluster.devices) (world_of new.cluster) before out'
   ran-line taken' left' out' unread new line status next num never_fall done =
-      ran-by taken' left' line (next-of taken' left' line next) new never_fall status unread out' num (done sofar.scene (t ++ sofar.text) g.scene_is g.written_is)
+      ran-by taken' left' line (next-of taken' left' line next) new never_fall status unread out' num (done sofar.scene g.scene_is)
 
   -- ---- between lines
 
   abbrev Ran : Status → Option (List ℕ) → Type 0
-  Ran status unread = LinesRan config b status unread (faults_at old.cluster.devices) (faults_at mid.cluster.devices) (world_of mid.cluster) t out
+  Ran status unread = LinesRan config b status unread (faults_at old.cluster.devices) (faults_at mid.cluster.devices) (world_of mid.cluster) before out
 
   ran-so : (status : Status) (unread : Option (List ℕ)) → HowLinesEnded status config b (faulty sofar.made) unread (did_by sofar) → Ran status unread
   ran-so status unread h = record { did = did_by sofar; world_is = g.scene_is.world; written_is = g.written_is; rise = g.rise; how = h }

@@ -1,9 +1,9 @@
--- What a command or a line did, where all stores tell. For private clauses.
+-- What a command or a line did, where all stores tell; of the text that was written, where the sink tells. For private clauses.
 use Rattle.std.specs.Prelude.{◌≡◌, ◌⊎◌, ◌+◌, ◌++◌, List, [], ℕ, length, take, Option, None, Some, Bool, true, false, Result, Ok, Err}
 use Rattle.keep_spec.specs.Config.{Configuration}
 use Rattle.keep_spec.specs.declared.status.Status.{Status}
 use Rattle.keep_spec.specs.declared.status.Status.TheVariants as St
-use Rattle.std.specs.Io.KnownBytes.{Appends}
+use Rattle.std.specs.Io.KnownBytes.{Appends, Keeps}
 use Rattle.keep_base.specs.Sources.{AppendsPrefix}
 use Rattle.keep_base.specs.declared.lines.Line.{Line}
 use Rattle.keep_cluster.specs.Cluster.{View, world_of, faults_at}
@@ -79,21 +79,21 @@ IsWritten spent before written text (Err St.PortFault) = (spent ≡ true) × App
 IsWritten spent before written text (Err St.WriteFault) = AppendsPrefix before written text
 IsWritten spent before written text (Err other) = ⊥
 
--- what a line did, by its answer, where so much was written before and this after
-abbrev pub line_done_by : {S : Type 0} → Configuration → ℕ → Scene → Stage S → Stage S → List ℕ → Option (List ℕ) → Result (Unit {0}) Status → (List ℕ → Option Effect) → Type 0
-line_done_by config number scene old new t written (Ok done) f =
-    (d : HasEffect config scene old new f) × ((d.effect.spent ≡ false) × (written ≡ Some (t ++ d.effect.text)))
-line_done_by config number scene old new t written (Err (St.BadLine n)) f = (n ≡ number) × (IsRefused scene new.cluster f × (written ≡ Some t))
-line_done_by config number scene old new t written (Err St.PortFault) f =
-    (d : HasEffect config scene old new f) × ((d.effect.spent ≡ true) × (written ≡ Some (t ++ d.effect.text)))
-line_done_by config number scene old new t written (Err St.WriteFault) f =
-    (d : HasEffect config scene old new f) × ((k : ℕ) × (written ≡ Some (t ++ take k d.effect.text)))
-line_done_by config number scene old new t written (Err St.NoMemory) f = IsStopped scene old.cluster new.cluster f × (written ≡ Some t)
-line_done_by config number scene old new t written (Err other) f = ⊥
+-- what a line did, by its answer; the sink, where it tells, held so much before and this after
+abbrev pub line_done_by : {S : Type 0} → Configuration → ℕ → Scene → Stage S → Stage S → Option (List ℕ) → Option (List ℕ) → Result (Unit {0}) Status → (List ℕ → Option Effect) → Type 0
+line_done_by config number scene old new before written (Ok done) f =
+    (d : HasEffect config scene old new f) × ((d.effect.spent ≡ false) × Appends before written d.effect.text)
+line_done_by config number scene old new before written (Err (St.BadLine n)) f = (n ≡ number) × (IsRefused scene new.cluster f × Keeps before written)
+line_done_by config number scene old new before written (Err St.PortFault) f =
+    (d : HasEffect config scene old new f) × ((d.effect.spent ≡ true) × Appends before written d.effect.text)
+line_done_by config number scene old new before written (Err St.WriteFault) f =
+    (d : HasEffect config scene old new f) × AppendsPrefix before written d.effect.text
+line_done_by config number scene old new before written (Err St.NoMemory) f = IsStopped scene old.cluster new.cluster f × Keeps before written
+line_done_by config number scene old new before written (Err other) f = ⊥
 
 abbrev pub IsLineDone : {S : Type 0} → Configuration → Line → Stage S → Stage S → Option (List ℕ) → Option (List ℕ) → Result (Unit {0}) Status → Type 0
-IsLineDone config line old new before written result = (scene : Scene) → (t : List ℕ) → IsSceneOf config old scene → before ≡ Some t →
-    line_done_by config line.number scene old new t written result (λ failed. effect_of_line config failed scene line.text)
+IsLineDone config line old new before written result = (scene : Scene) → IsSceneOf config old scene →
+    line_done_by config line.number scene old new before written result (λ failed. effect_of_line config failed scene line.text)
 
 -- what asking a name up to so many times did, by its answer, and where memory was refused
 abbrev pub IsAskingDone : {S : Type 0} → ℕ → Configuration → List ℕ → ℕ → Stage S → Stage S → List ℕ → List ℕ → Done → Type 0

@@ -1,5 +1,6 @@
 -- The lines of a run that are done so far. For private clauses and invariants.
-use Rattle.std.specs.Prelude.{◌≡◌, ◌++◌, ◌+◌, ℕ, List, length, Option, Some, Result, Ok, Err, ⊤}
+use Rattle.std.specs.Prelude.{◌≡◌, ◌+◌, ℕ, List, length, Option, Some, Result, Ok, Err, ⊤}
+use Rattle.std.specs.Io.KnownBytes.{Appends}
 use Rattle.keep_spec.specs.Lines.{cut}
 use Rattle.keep_spec.specs.Config.{Configuration}
 use Rattle.keep_spec.specs.declared.status.Status.{Status}
@@ -15,13 +16,13 @@ use Rattle.keep_run.specs.Scenes.{IsSceneOf}
 use Rattle.keep_run.specs.declared.stage.Stage.{Stage}
 
 -- lines from a beginning on are done, from one stage to another, and these bytes are to come
-pub record Going {S : Type 0} (config : Configuration) (b : Beginning) (taken number : ℕ) (left : Option (List ℕ)) (old new : Stage S) (text : List ℕ) (written : Option (List ℕ)) : Type 0 where
+pub record Going {S : Type 0} (config : Configuration) (b : Beginning) (taken number : ℕ) (left : Option (List ℕ)) (old new : Stage S) (before written : Option (List ℕ)) : Type 0 where
   pub lines : ℕ
   pub rest : List ℕ
   pub sofar : Progress
   pub left_is : left ≡ Some rest
   pub scene_is : IsSceneOf config new sofar.scene
-  pub written_is : written ≡ Some (text ++ sofar.text)
+  pub written_is : Appends before written sofar.text
   pub numbered : AreNumbered 0 sofar.made
   pub count_is : sofar.scene.count ≡ length sofar.made
   pub rise : Rise sofar.made (faults_at old.cluster.devices) (faults_at new.cluster.devices)

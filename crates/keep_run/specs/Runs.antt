@@ -1,5 +1,6 @@
--- What lines did, one after another, where source, sink and stores tell. For private clauses.
+-- What lines did, one after another, where source and stores tell; of the text that was written, where the sink tells. For private clauses.
 use Rattle.std.specs.Prelude.{◌≡◌, ◌⊎◌, ◌++◌, ℕ, List, [], ◌∷◌, take, Option, Some}
+use Rattle.std.specs.Io.KnownBytes.{Appends}
 use Rattle.keep_spec.specs.Lines.{cut}
 use Rattle.keep_spec.specs.Config.{Configuration}
 use Rattle.keep_spec.specs.declared.status.Status.{Status}
@@ -99,10 +100,10 @@ HowLinesEnded WriteFault c b failed unread did = IsPartWritten c b failed did
 HowLinesEnded NoMemory c b failed unread did = ((lines : ℕ) × AreDone c b failed lines did) ⊎ IsPartMade c b failed did
 HowLinesEnded other c b failed unread did = ⊥
 
--- The lines from a beginning on ended with a status: what they did, where the events that failed are just those that were answered StoreFault. `text` was written before, `unread` is what the source has left.
-pub record LinesRan (c : Configuration) (b : Beginning) (status : Status) (unread : Option (List ℕ)) (before now : ℕ → ℕ) (world : Option World) (text : List ℕ) (written : Option (List ℕ)) : Type 0 where
+-- The lines from a beginning on ended with a status: what they did, where the events that failed are just those that were answered StoreFault. `unread` is what the source has left; the sink held `before` and now holds `written`, where it tells.
+pub record LinesRan (c : Configuration) (b : Beginning) (status : Status) (unread : Option (List ℕ)) (faults_before faults_now : ℕ → ℕ) (world : Option World) (before written : Option (List ℕ)) : Type 0 where
   pub did : Did
   pub world_is : world ≡ Some did.world
-  pub written_is : written ≡ Some (text ++ did.text)
-  pub rise : Rise did.made before now
+  pub written_is : Appends before written did.text
+  pub rise : Rise did.made faults_before faults_now
   pub how : HowLinesEnded status c b (faulty did.made) unread did

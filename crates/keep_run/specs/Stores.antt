@@ -1,5 +1,6 @@
 -- What a run finds in its stores, and what it leaves there.
 use Rattle.std.specs.Prelude.{◌≡◌, ◌≤◌, ◌<◌, ◌++◌, ⊤, ℕ, zero, suc, List, [], ◌∷◌, length, map, slice_index_or, Option, Some, IfSome, true, false, Result, Ok, Err}
+use Rattle.std.specs.Io.KnownBytes.{Appends}
 use Rattle.std.specs.Option.{option_map_or}
 use Rattle.keep_spec.specs.Causes.{Rose}
 use Rattle.keep_spec.specs.Config.{Configuration}
@@ -162,16 +163,16 @@ pub record IsNextRefused {S : Type 0} (told : S → Told) (device : ℕ) (status
 abbrev pub devices_in : ℕ → List ℕ → ℕ
 devices_in stores bytes = option_map_or (λ (b : Begun). length b.config.devices) (begun_of stores (cut bytes)) 0
 
--- A run of an input over stores that kept this: what it did, what the stores of the devices keep then, what was written after `text`, and how it ended.
-pub record StoresRan (old new : List Told) (bytes text : List ℕ) (starts : List Kept) (status : Status) (unread : Option (List ℕ)) (written : Option (List ℕ)) : Type 0 where
+-- A run of an input over stores that kept this: what it did, what the stores of the devices keep then, how it ended, and what was written. The sink held `before` and now holds `written`: where it tells, the text of what was done was appended, and where it doesn't, all else stands.
+pub record StoresRan (old new : List Told) (bytes : List ℕ) (before : Option (List ℕ)) (starts : List Kept) (status : Status) (unread : Option (List ℕ)) (written : Option (List ℕ)) : Type 0 where
   pub work : Work
   pub keep : FirstKeep (devices_in (length old) bytes) new work.left
-  pub written_is : written ≡ Some (text ++ work.text)
+  pub written_is : Appends before written work.text
   pub ran : Ran starts bytes status unread (counts old) (counts new) work
 
 -- where all lines are script lines, with the events that failed, the run is done, or memory was wanted, or the source, the sink or a store at opening failed
-pub record RanWhole (old new : List Told) (bytes text : List ℕ) (starts : List Kept) (status : Status) (unread : Option (List ℕ)) (written : Option (List ℕ)) : Type 0 where
-  pub ran : StoresRan old new bytes text starts status unread written
+pub record RanWhole (old new : List Told) (bytes : List ℕ) (before : Option (List ℕ)) (starts : List Kept) (status : Status) (unread : Option (List ℕ)) (written : Option (List ℕ)) : Type 0 where
+  pub ran : StoresRan old new bytes before starts status unread written
   pub whole : IsScript (faulty ran.work.made) starts bytes → EndsWhole status
 
 -- the first line of an input is a configuration for so many stores, and these bytes come after it. For private clauses.

@@ -44,9 +44,9 @@ fn run_stores<R: Source, W: Sink, S: Store>(
     requires unfailed { lines_failed lines.old ≡ None }
     requires first { lines_number lines.old ≡ 1 }
     requires enough { length config.now.devices ≤ vec_len stores.old }
-    ensures told { (whole : List ℕ) → (bytes : List ℕ) → (t : List ℕ) → (starts : List Kept) → lines_left lines.old ≡ Some bytes → HasBegun (vec_len stores.old) whole bytes config.now (lines_taken lines.old) → W.taken sink.old ≡ Some t
+    ensures told { (whole : List ℕ) → (bytes : List ℕ) → (starts : List Kept) → lines_left lines.old ≡ Some bytes → HasBegun (vec_len stores.old) whole bytes config.now (lines_taken lines.old)
         → FirstTell (length config.now.devices) (told_by S.held S.noted S.faults stores.old.items) starts
-        → StoresRan (told_by S.held S.noted S.faults stores.old.items) (told_by S.held S.noted S.faults stores.new.items) whole t starts result (R.left (lines_source lines.new)) (W.taken sink.new) }
+        → StoresRan (told_by S.held S.noted S.faults stores.old.items) (told_by S.held S.noted S.faults stores.new.items) whole (W.taken sink.old) starts result (R.left (lines_source lines.new)) (W.taken sink.new) }
     ensures len { vec_len stores.new ≡ vec_len stores.old }
     ensures others { drop (length config.now.devices) stores.new.items ≡ drop (length config.now.devices) stores.old.items }
     ensures same_reference { lines_name lines.new ≡ lines_name lines.old }
@@ -99,9 +99,9 @@ fn run_input<R: Source, W: Sink, S: Store>(
     requires unfailed { lines_failed lines.old ≡ None }
     requires taken { lines_taken lines.old ≡ 0 }
     requires number { lines_number lines.old ≡ 0 }
-    ensures told { (bytes : List ℕ) → (t : List ℕ) → (starts : List Kept) → lines_left lines.old ≡ Some bytes → W.taken sink.old ≡ Some t
+    ensures told { (bytes : List ℕ) → (starts : List Kept) → lines_left lines.old ≡ Some bytes
         → FirstTell (devices_in (vec_len stores.old) bytes) (told_by S.held S.noted S.faults stores.old.items) starts
-        → StoresRan (told_by S.held S.noted S.faults stores.old.items) (told_by S.held S.noted S.faults stores.new.items) bytes t starts result (R.left (lines_source lines.new)) (W.taken sink.new) }
+        → StoresRan (told_by S.held S.noted S.faults stores.old.items) (told_by S.held S.noted S.faults stores.new.items) bytes (W.taken sink.old) starts result (R.left (lines_source lines.new)) (W.taken sink.new) }
     ensures len { vec_len stores.new ≡ vec_len stores.old }
     ensures others { (bytes : List ℕ) → lines_left lines.old ≡ Some bytes → drop (devices_in (vec_len stores.old) bytes) stores.new.items ≡ drop (devices_in (vec_len stores.old) bytes) stores.old.items }
     ensures same_reference { lines_name lines.new ≡ lines_name lines.old }
@@ -130,7 +130,8 @@ fn run_input<R: Source, W: Sink, S: Store>(
 /// script line, and leave in the stores what they kept; `BadLine`, `LineTooLong`, `InputTooLong` and `PortFault` leave what the lines before left, with their
 /// whole text written. `ReadFault` comes between two lines, when each line that was read whole is done and its text written. After `WriteFault` a line is done
 /// and a beginning of its text is written; after `NoMemory` the first events of a line may be, with none of its text. A fault comes only where the failing
-/// object's count rose. The form of script and output is this project's own.
+/// object's count rose. Status and stores are so whatever the sink is; what was written is said of one that tells. The form of script and output is this
+/// project's own.
 pub fn run_call<R: Source, W: Sink, S: Store>(
     alloc: Global,
     words: &[String],
@@ -139,16 +140,16 @@ pub fn run_call<R: Source, W: Sink, S: Store>(
     stores: &mut Vec<S>,
 ) -> Status
     ensures words { (result ≡ Status.BadWords) ↔ (is_run words.now ≡ false) }
-    ensures headline { is_run words.now ≡ true → (bytes : List ℕ) → (t : List ℕ) → (starts : List Kept) → R.left source.old ≡ Some bytes → W.taken sink.old ≡ Some t
+    ensures headline { is_run words.now ≡ true → (bytes : List ℕ) → (starts : List Kept) → R.left source.old ≡ Some bytes
         → FirstTell (devices_in (vec_len stores.old) bytes) (told_by S.held S.noted S.faults stores.old.items) starts
-        → StoresRan (told_by S.held S.noted S.faults stores.old.items) (told_by S.held S.noted S.faults stores.new.items) bytes t starts result (R.left source.new) (W.taken sink.new) }
+        → StoresRan (told_by S.held S.noted S.faults stores.old.items) (told_by S.held S.noted S.faults stores.new.items) bytes (W.taken sink.old) starts result (R.left source.new) (W.taken sink.new) }
     ensures reads { IfSome (R.left source.old) (λ bytes. (failed : List ℕ) → ReadsAreOfPuts (vec_len stores.old) failed bytes) }
     ensures collisions { IfSome (R.left source.old) (λ bytes. (failed : List ℕ) → CollisionsAreRefused (vec_len stores.old) failed bytes) }
     ensures saves { IfSome (R.left source.old) (λ bytes. (failed : List ℕ) → GoodSavesAreMade (vec_len stores.old) failed bytes) }
     ensures good_tasks { IfSome (R.left source.old) (λ bytes. (failed : List ℕ) → GoodTasksEndWell (vec_len stores.old) failed bytes) }
-    ensures whole { is_run words.now ≡ true → (bytes : List ℕ) → (t : List ℕ) → (starts : List Kept) → R.left source.old ≡ Some bytes → W.taken sink.old ≡ Some t
+    ensures whole { is_run words.now ≡ true → (bytes : List ℕ) → (starts : List Kept) → R.left source.old ≡ Some bytes
         → FirstTell (devices_in (vec_len stores.old) bytes) (told_by S.held S.noted S.faults stores.old.items) starts
-        → RanWhole (told_by S.held S.noted S.faults stores.old.items) (told_by S.held S.noted S.faults stores.new.items) bytes t starts result (R.left source.new) (W.taken sink.new) }
+        → RanWhole (told_by S.held S.noted S.faults stores.old.items) (told_by S.held S.noted S.faults stores.new.items) bytes (W.taken sink.old) starts result (R.left source.new) (W.taken sink.new) }
     ensures len { vec_len stores.new ≡ vec_len stores.old }
     ensures others { is_run words.now ≡ true → (bytes : List ℕ) → R.left source.old ≡ Some bytes → drop (devices_in (vec_len stores.old) bytes) stores.new.items ≡ drop (devices_in (vec_len stores.old) bytes) stores.old.items }
     ensures untouched { result ≡ Status.BadWords → (stores.new ≡ stores.old) × (source.new ≡ source.old) × (sink.new ≡ sink.old) }

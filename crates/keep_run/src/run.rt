@@ -97,8 +97,8 @@ pub(crate) fn run_lines<R: Source, W: Sink, S: Store>(
 ) -> Status
     requires unfailed { lines_failed lines.old ≡ None }
     requires fresh { IsFresh config.now stage.old }
-    ensures told { (bytes : List ℕ) → (t : List ℕ) → lines_left lines.old ≡ Some bytes → world_of stage.old.cluster ≡ Some (new_world config.now) → W.taken sink.old ≡ Some t →
-        LinesRan config.now (beginning (lines_taken lines.old) (lines_number lines.old) bytes) result (R.left (lines_source lines.new)) (faults_at stage.old.cluster.devices) (faults_at stage.new.cluster.devices) (world_of stage.new.cluster) t (W.taken sink.new) }
+    ensures told { (bytes : List ℕ) → lines_left lines.old ≡ Some bytes → world_of stage.old.cluster ≡ Some (new_world config.now) →
+        LinesRan config.now (beginning (lines_taken lines.old) (lines_number lines.old) bytes) result (R.left (lines_source lines.new)) (faults_at stage.old.cluster.devices) (faults_at stage.new.cluster.devices) (world_of stage.new.cluster) (W.taken sink.old) (W.taken sink.new) }
     ensures same_reference { lines_name lines.new ≡ lines_name lines.old }
     ensures devices { length stage.new.cluster.config.devices ≡ length stage.old.cluster.config.devices }
     ensures source_never_falls { R.faults (lines_source lines.old) ≤ R.faults (lines_source lines.new) }

@@ -25,7 +25,7 @@ pub returns-clause-good_tasks : goal.returns-clause-good_tasks
 returns-clause-good_tasks g c = told-good-tasks _ _
 
 pub returns-clause-whole : goal.returns-clause-whole
-returns-clause-whole g c = λ words bytes t starts left taken tell. whole-ran _ _ bytes t starts _ _ _ (search rules)
+returns-clause-whole g c = λ words bytes starts left tell. whole-ran _ _ bytes _ starts _ _ _ (search rules)
 
 pub returns-then-not-is_run-clause-saves : goal.returns-then-not-is_run-clause-saves
 returns-then-not-is_run-clause-saves g c = told-saves _ _

@@ -12,28 +12,28 @@ loop-line-init g c = record {
   source_never_falls = omega arith;
   stores_never_fall = λ device. omega arith;
   sink_never_falls = omega arith;
-  told = λ bytes t left world taken. going-start _ _ _ bytes _ _ t _ c.requires.fresh left world taken;
+  told = λ bytes left world. going-start _ _ _ bytes _ _ _ c.requires.fresh left world;
 }
 
 pub returns-in-Ok-None-clause-told : goal.returns-in-Ok-None-clause-told
-returns-in-Ok-None-clause-told g c = λ bytes t left world taken.
+returns-in-Ok-None-clause-told g c = λ bytes left world.
     let inv = c.loop-line.invariant in
     let next = rw c.in-Ok-None.field-0-is at c.in-Ok-None.ensures.next_line in
     let end = c.in-Ok-None.ensures.ended (ap Ok c.in-Ok-None.field-0-is) in
-    ran-done _ _ _ _ t _ _ _ _ (inv.told bytes t left world taken) _ _ _ _ (next inv.unfailed) end.left_stays end.none_left
+    ran-done _ _ _ _ _ _ _ _ _ (inv.told bytes left world) _ _ _ _ (next inv.unfailed) end.left_stays end.none_left
 
 pub returns-in-Err-clause-told : goal.returns-in-Err-clause-told
-returns-in-Err-clause-told g c = λ bytes t left world taken.
+returns-in-Err-clause-told g c = λ bytes left world.
     let inv = c.loop-line.invariant in
-    rw c.status_of.ensures (ran-error _ _ _ _ t _ _ _ _ (inv.told bytes t left world taken) c.in-Err.error _ _ _ _ (c.in-Err.ensures.next_line inv.unfailed)
+    rw c.status_of.ensures (ran-error _ _ _ _ _ _ _ _ _ (inv.told bytes left world) c.in-Err.error _ _ _ _ (c.in-Err.ensures.next_line inv.unfailed)
     (λ is. let i = c.in-Err.ensures.interrupted (ap Err is) inv.unfailed in (i.left_stays, i.no_newline)))
 
 pub returns-in-Err-run_line-clause-told : goal.returns-in-Err-run_line-clause-told
-returns-in-Err-run_line-clause-told g c = λ bytes t left world taken.
+returns-in-Err-run_line-clause-told g c = λ bytes left world.
     let inv = c.loop-line.invariant in
     let o = rw c.in-Ok-Some.field-0-is at c.in-Ok-Some.ensures.next_line in
     let n = rw c.in-Ok-Some.field-0-is at c.in-Ok-Some.ensures.number in
-    ran-line _ _ _ _ t _ _ _ _ (inv.told bytes t left world taken) _ _ _ _ _ c.in-Ok-Some.line c.in-Err-run_line.status (o inv.unfailed) (n.0 ∙ n.1) c.in-Err-run_line.ensures.stores_never_fall c.in-Err-run_line.ensures.told
+    ran-line _ _ _ _ _ _ _ _ _ (inv.told bytes left world) _ _ _ _ _ c.in-Ok-Some.line c.in-Err-run_line.status (o inv.unfailed) (n.0 ∙ n.1) c.in-Err-run_line.ensures.stores_never_fall c.in-Err-run_line.ensures.told
 
 pub loop-line-preserved : goal.loop-line-preserved
 loop-line-preserved g c =
@@ -49,5 +49,5 @@ loop-line-preserved g c =
       source_never_falls = omega (arith, c.in-Ok-Some.ensures.never_falls, inv.source_never_falls);
       stores_never_fall = λ device. omega (arith, c.in-Ok.ensures.stores_never_fall device, inv.stores_never_fall device);
       sink_never_falls = omega (arith, c.in-Ok.ensures.sink_never_falls, inv.sink_never_falls);
-      told = λ bytes t left world taken. going-more _ _ _ _ t _ _ _ _ (inv.told bytes t left world taken) _ _ _ _ _ c.in-Ok-Some.line (o inv.unfailed) n.1 c.in-Ok.ensures.stores_never_fall c.in-Ok.ensures.told;
+      told = λ bytes left world. going-more _ _ _ _ _ _ _ _ _ (inv.told bytes left world) _ _ _ _ _ c.in-Ok-Some.line (o inv.unfailed) n.1 c.in-Ok.ensures.stores_never_fall c.in-Ok.ensures.told;
     }

@@ -18,8 +18,8 @@ invariant-loop-line g l = record {
   source_never_falls : g.R.Source.faults (lines_source l.fn.lines) ≤ g.R.Source.faults (lines_source l.lines);
   stores_never_fall : NoneFalls (faults_at l.fn.stage.cluster.devices) (faults_at l.stage.cluster.devices);
   sink_never_falls : g.W.Sink.faults l.fn.sink ≤ g.W.Sink.faults l.sink;
-  told : (bytes : List ℕ) → (t : List ℕ) → lines_left l.fn.lines ≡ Some bytes → world_of l.fn.stage.cluster ≡ Some (new_world l.config) → g.W.Sink.taken l.fn.sink ≡ Some t →
-      Going l.config (beginning (lines_taken l.fn.lines) (lines_number l.fn.lines) bytes) (lines_taken l.lines) (lines_number l.lines) (lines_left l.lines) l.fn.stage l.stage t (g.W.Sink.taken l.sink);
+  told : (bytes : List ℕ) → lines_left l.fn.lines ≡ Some bytes → world_of l.fn.stage.cluster ≡ Some (new_world l.config) →
+      Going l.config (beginning (lines_taken l.fn.lines) (lines_number l.fn.lines) bytes) (lines_taken l.lines) (lines_number l.lines) (lines_left l.lines) l.fn.stage l.stage (g.W.Sink.taken l.fn.sink) (g.W.Sink.taken l.sink);
 }
 
 abbrev pub decreases-loop-line : goal.decreases-loop-line
