@@ -4,7 +4,6 @@ use Rattle.std.proofs.lemmas.List.{append-nil, take_all, drop_all, length-take-l
 use Rattle.std.proofs.lemmas.Bool.Decides.{nat_tests}
 use Rattle.std.specs.Io.KnownBytes.{Keeps, prepend_known}
 use Rattle.keep_spec.specs.Lines.{cut, text_of, Verdict, fits, line_too_long, input_too_long, verdict_of}
-use Rattle.keep_base.specs.declared.lines.Line.{Line}
 use Rattle.keep_base.specs.declared.lines.Stop.{Stop}
 use Rattle.keep_base.specs.declared.lines.Stop.TheVariants.{ReadFault, LineTooLong, InputTooLong, NoMemory}
 use Rattle.keep_base.specs.declared.lines.Found as F
@@ -53,19 +52,19 @@ text_within : (pending : List ℕ) (left : Option (List ℕ)) (text piece : ℕ)
 text_within pending left text piece e =
     elim e.how as (λ _. text ≤ length pending) [ inl h ↦ let w = e.within in omega (arith, h.0) | inr h ↦ omega (arith, h.1) ]
 
-pub next_given : (taken number after : ℕ) (known left : Option (List ℕ)) (pending : List ℕ) (text piece : ℕ) (line : Line) → Keeps known (prepend_known pending left) → Ends pending left text piece → verdict_of LINE_MAX INPUT_MAX taken text piece ≡ fits → line.text ≡ take text pending → after ≡ taken + piece → IsNext taken number known (Ok (Some line)) after (prepend_known (drop piece pending) left)
-next_given taken number after None left pending text piece line k e v t a = tt
-next_given taken number after (Some bytes) None pending text piece line k e v t a = absurd k
-next_given taken number after (Some bytes) (Some s) pending text piece line k e v t a =
+pub next_given : (taken number after n : ℕ) (known left : Option (List ℕ)) (pending : List ℕ) (text piece : ℕ) → Keeps known (prepend_known pending left) → Ends pending left text piece → verdict_of LINE_MAX INPUT_MAX taken text piece ≡ fits → after ≡ taken + piece → IsNext taken number known (Ok (Some n)) (take text pending) after (prepend_known (drop piece pending) left)
+next_given taken number after n None left pending text piece k e v a = tt
+next_given taken number after n (Some bytes) None pending text piece k e v a = absurd k
+next_given taken number after n (Some bytes) (Some s) pending text piece k e v a =
     let f = found_ends pending s text piece e in
     let full : length (take piece pending) ≡ piece = length-take-le piece pending e.within in
     let full_text : length (take text pending) ≡ text = length-take-le text pending (text_within pending (Some s) text piece e) in
     record {
       piece = take piece pending;
       first = ap cut (sym k) ∙ f.first;
-      text_is = t ∙ sym f.text_is;
+      text_is = sym f.text_is;
       taken_is = rw full a;
-      fits_in = rw (full, t, full_text) v;
+      fits_in = rw (full, full_text) v;
     }
 
 -- a verdict that refuses stays as the line goes on
@@ -110,28 +109,28 @@ refused taken v pending s ne le longer (text, (piece, (begins, e))) =
           refused_newline taken text v pending s le' begins.plain h.1 (rw h.0 at e)
     ]
 
-next_refused-line : (taken number after : ℕ) (known left after_left : Option (List ℕ)) (pending : List ℕ) → taken ≤ INPUT_MAX → Keeps known (prepend_known pending left) → IsRefused taken line_too_long pending → IsNext taken number known (Err (E.LineTooLong (number + 1))) after after_left
-next_refused-line taken number after None left after_left pending le k r = tt
-next_refused-line taken number after (Some bytes) None after_left pending le k r = absurd k
-next_refused-line taken number after (Some bytes) (Some s) after_left pending le k r =
+next_refused-line : (taken number after : ℕ) (known left after_left : Option (List ℕ)) (lent pending : List ℕ) → taken ≤ INPUT_MAX → Keeps known (prepend_known pending left) → IsRefused taken line_too_long pending → IsNext taken number known (Err (E.LineTooLong (number + 1))) lent after after_left
+next_refused-line taken number after None left after_left lent pending le k r = tt
+next_refused-line taken number after (Some bytes) None after_left lent pending le k r = absurd k
+next_refused-line taken number after (Some bytes) (Some s) after_left lent pending le k r =
     (refl, rw (sym k) (refused taken line_too_long pending s (λ e. cc) le (line-longer taken) r))
 
-next_refused-input : (taken number after : ℕ) (known left after_left : Option (List ℕ)) (pending : List ℕ) → taken ≤ INPUT_MAX → Keeps known (prepend_known pending left) → IsRefused taken input_too_long pending → IsNext taken number known (Err E.InputTooLong) after after_left
-next_refused-input taken number after None left after_left pending le k r = tt
-next_refused-input taken number after (Some bytes) None after_left pending le k r = absurd k
-next_refused-input taken number after (Some bytes) (Some s) after_left pending le k r =
+next_refused-input : (taken number after : ℕ) (known left after_left : Option (List ℕ)) (lent pending : List ℕ) → taken ≤ INPUT_MAX → Keeps known (prepend_known pending left) → IsRefused taken input_too_long pending → IsNext taken number known (Err E.InputTooLong) lent after after_left
+next_refused-input taken number after None left after_left lent pending le k r = tt
+next_refused-input taken number after (Some bytes) None after_left lent pending le k r = absurd k
+next_refused-input taken number after (Some bytes) (Some s) after_left lent pending le k r =
     rw (sym k) (refused taken input_too_long pending s (λ e. cc) le (input-longer taken) r)
 
-next_fault : (taken number after : ℕ) (known after_left : Option (List ℕ)) → IsNext taken number known (Err E.ReadFault) after after_left
-next_fault taken number after None after_left = tt
-next_fault taken number after (Some bytes) after_left = tt
+next_fault : (taken number after : ℕ) (known after_left : Option (List ℕ)) (lent : List ℕ) → IsNext taken number known (Err E.ReadFault) lent after after_left
+next_fault taken number after None after_left lent = tt
+next_fault taken number after (Some bytes) after_left lent = tt
 
-next_memory : (taken number after : ℕ) (known after_left : Option (List ℕ)) → IsNext taken number known (Err E.NoMemory) after after_left
-next_memory taken number after None after_left = tt
-next_memory taken number after (Some bytes) after_left = tt
+next_memory : (taken number after : ℕ) (known after_left : Option (List ℕ)) (lent : List ℕ) → IsNext taken number known (Err E.NoMemory) lent after after_left
+next_memory taken number after None after_left lent = tt
+next_memory taken number after (Some bytes) after_left lent = tt
 
-pub next_stopped : (taken number after : ℕ) (old : List ℕ) (old_left left after_left : Option (List ℕ)) (pending : List ℕ) (stop : Stop) → taken ≤ INPUT_MAX → SameBytes {T = Option F.Found} (Err stop) old old_left pending left → IsFound taken (Err stop) pending left → IsNext taken number (prepend_known old old_left) (Err (error_of_stop stop (number + 1))) after after_left
-next_stopped taken number after old old_left left after_left pending ReadFault le k f = next_fault taken number after (prepend_known old old_left) after_left
-next_stopped taken number after old old_left left after_left pending LineTooLong le k f = next_refused-line taken number after (prepend_known old old_left) left after_left pending le k f
-next_stopped taken number after old old_left left after_left pending InputTooLong le k f = next_refused-input taken number after (prepend_known old old_left) left after_left pending le k f
-next_stopped taken number after old old_left left after_left pending NoMemory le k f = next_memory taken number after (prepend_known old old_left) after_left
+pub next_stopped : (taken number after : ℕ) (old lent : List ℕ) (old_left left after_left : Option (List ℕ)) (pending : List ℕ) (stop : Stop) → taken ≤ INPUT_MAX → SameBytes {T = Option F.Found} (Err stop) old old_left pending left → IsFound taken (Err stop) pending left → IsNext taken number (prepend_known old old_left) (Err (error_of_stop stop (number + 1))) lent after after_left
+next_stopped taken number after old lent old_left left after_left pending ReadFault le k f = next_fault taken number after (prepend_known old old_left) after_left lent
+next_stopped taken number after old lent old_left left after_left pending LineTooLong le k f = next_refused-line taken number after (prepend_known old old_left) left after_left lent pending le k f
+next_stopped taken number after old lent old_left left after_left pending InputTooLong le k f = next_refused-input taken number after (prepend_known old old_left) left after_left lent pending le k f
+next_stopped taken number after old lent old_left left after_left pending NoMemory le k f = next_memory taken number after (prepend_known old old_left) after_left lent

@@ -1,8 +1,7 @@
 -- What a reader of lines has done and has left, and what comes next. Bounds are those of keep_base/src/lines.
-use Rattle.std.specs.Prelude.{◌≡◌, ℕ, ◌+◌, List, [], ◌∷◌, length, drop, Option, None, Some, Result, Ok, Err, ⊤}
+use Rattle.std.specs.Prelude.{◌≡◌, ℕ, ◌+◌, List, [], ◌∷◌, length, take, drop, Option, None, Some, Result, Ok, Err, ⊤}
 use Rattle.std.specs.Io.KnownBytes.{prepend_known, IsAtEnd, Keeps}
 use Rattle.keep_spec.specs.Lines.{cut, text_of, newlines, Verdict, fits, line_too_long, input_too_long, verdict_of}
-use Rattle.keep_base.specs.declared.lines.Line.{Line}
 use Rattle.keep_base.specs.declared.lines.Lines.{Lines}
 use Rattle.keep_base.specs.declared.stream.Source.{Ghosts}
 use Rattle.keep_base.specs.declared.lines.LineError.{LineError}
@@ -12,6 +11,10 @@ use Rattle.keep_base.specs.declared.lines.TheConstants.{LINE_MAX, INPUT_MAX}
 -- the bytes of no line that was returned, where the source tells them
 abbrev pub lines_left : {R : Type 0} {G : Ghosts R} → Lines R G → Option (List ℕ)
 lines_left {R} {G} lines = prepend_known (drop lines.start lines.pending.items) (G.left lines.source.now)
+
+-- the text that is lent: of the line that the last call returned
+abbrev pub lines_text : {R : Type 0} {G : Ghosts R} → Lines R G → List ℕ
+lines_text lines = take lines.text_len (drop lines.text_start lines.pending.items)
 
 -- the error that every call returns from now on
 abbrev pub lines_failed : {R : Type 0} {G : Ghosts R} → Lines R G → Option LineError
@@ -40,11 +43,12 @@ pub record IsInterrupted {R : Type 0} {G : Ghosts R} (old new : Lines R G) : Typ
   pub left_stays : Keeps (lines_left old) (lines_left new)
   pub no_newline : newlines (lines_ahead new) ≡ 0
 
--- the input has ended: nothing is read ahead, nothing is left of the source, and no byte or line was counted
+-- the input has ended: nothing is read ahead or lent, nothing is left of the source, and no byte or line was counted
 pub record IsEnd {R : Type 0} {G : Ghosts R} (old new : Lines R G) : Type 0 where
   pub left_stays : Keeps (lines_left old) (lines_left new)
   pub none_ahead : lines_ahead new ≡ []
   pub none_left : IsAtEnd (G.left new.source.now)
+  pub no_text : lines_text new ≡ []
   pub taken_stays : lines_taken new ≡ lines_taken old
   pub number_stays : lines_number new ≡ lines_number old
 
@@ -60,13 +64,13 @@ pub record IsGiven (taken taken_after : ℕ) (bytes left text : List ℕ) : Type
   pub taken_is : taken_after ≡ taken + length piece
   pub fits_in : verdict_of LINE_MAX INPUT_MAX taken (length text) (length piece) ≡ fits
 
--- what comes next of known bytes, after `taken` bytes and `number` lines
-abbrev pub IsNext : ℕ → ℕ → Option (List ℕ) → Result (Option Line) LineError → ℕ → Option (List ℕ) → Type 0
-IsNext taken number None result taken_after left = ⊤
-IsNext taken number (Some bytes) (Ok None) taken_after left = bytes ≡ []
-IsNext taken number (Some bytes) (Ok (Some line)) taken_after None = ⊥
-IsNext taken number (Some bytes) (Ok (Some line)) taken_after (Some left) = IsGiven taken taken_after bytes left line.text
-IsNext taken number (Some bytes) (Err ReadFault) taken_after left = ⊤
-IsNext taken number (Some bytes) (Err (LineTooLong n)) taken_after left = (n ≡ number + 1) × IsNextJudged taken bytes line_too_long
-IsNext taken number (Some bytes) (Err InputTooLong) taken_after left = IsNextJudged taken bytes input_too_long
-IsNext taken number (Some bytes) (Err NoMemory) taken_after left = ⊤
+-- what comes next of known bytes, after `taken` bytes and `number` lines, and the text that is lent then
+abbrev pub IsNext : ℕ → ℕ → Option (List ℕ) → Result (Option ℕ) LineError → List ℕ → ℕ → Option (List ℕ) → Type 0
+IsNext taken number None result text taken_after left = ⊤
+IsNext taken number (Some bytes) (Ok None) text taken_after left = bytes ≡ []
+IsNext taken number (Some bytes) (Ok (Some n)) text taken_after None = ⊥
+IsNext taken number (Some bytes) (Ok (Some n)) text taken_after (Some left) = IsGiven taken taken_after bytes left text
+IsNext taken number (Some bytes) (Err ReadFault) text taken_after left = ⊤
+IsNext taken number (Some bytes) (Err (LineTooLong n)) text taken_after left = (n ≡ number + 1) × IsNextJudged taken bytes line_too_long
+IsNext taken number (Some bytes) (Err InputTooLong) text taken_after left = IsNextJudged taken bytes input_too_long
+IsNext taken number (Some bytes) (Err NoMemory) text taken_after left = ⊤

@@ -5,8 +5,8 @@ ghost use Rattle.keep_spec.specs.Causes.{Rose};
 ghost use Rattle.keep_spec.specs.Lines.{verdict_of};
 ghost use Rattle.keep_base.specs.Ends.{IsNewlineFrom, IsJudged, IsFound, SameBytes, error_of_stop};
 
-use crate::{Bytes, Source};
-use std::alloc::{AllocError, AllocFailed, Global};
+use crate::Source;
+use std::alloc::Global;
 
 /// The most bytes of a line before its newline.
 pub const LINE_MAX: u64 = 1_048_576;
@@ -16,15 +16,6 @@ pub const INPUT_MAX: u64 = 1073741824;
 
 // How many bytes the source is asked for at a time.
 const CHUNK: usize = 16384;
-
-/// A line of an input.
-#[derive(Drop, Debug)]
-pub struct Line {
-    /// Lines are counted from 1.
-    pub number: u64,
-    /// The line without its newline.
-    pub text: Bytes,
-}
 
 /// Why a line can't be read. Each later call returns the same error.
 #[derive(Clone, Copy, Debug, PartialEq, Eq)]
@@ -55,20 +46,22 @@ pub(crate) enum Stop {
     NoMemory,
 }
 
-/// Reads a source line by line. A last line without a newline counts.
+/// Reads a source line by line, and lends each line until the next one is read. A last line without a newline counts.
 #[derive(Drop)]
 pub struct Lines<'a, R: Source> {
     source: &'a mut R,
-    alloc: Global,
-    // What was read ahead; the first `start` bytes are of lines that were returned.
+    // What was read ahead; the first `start` bytes are of lines that were returned. The text of the last of them stands at `text_start`.
     pending: Vec<u8>,
     start: usize,
+    text_start: usize,
+    text_len: usize,
     taken: u64,
     number: u64,
     failed: Option<LineError>,
     ghost in_range: { taken ≤ 1073741824 },
     ghost numbered: { number ≤ taken },
     ghost within: { start ≤ vec_len pending },
+    ghost text_within: { text_start + text_len ≤ vec_len pending },
 }
 
 // The index of the first newline at or after `from`.
@@ -143,17 +136,9 @@ fn drop_front(bytes: &mut Vec<u8>, count: usize)
     requires { count ≤ length bytes.old.items }
     ensures { bytes.new.items ≡ drop count bytes.old.items }
 {
-    let rest = bytes.len() - count;
-    bytes.rotate_left(count);
-    bytes.truncate(rest);
-}
-
-// The first bytes.
-fn first(bytes: &[u8], count: usize) -> &[u8]
-    requires { count ≤ length bytes.now }
-    ensures { result.now ≡ take count bytes.now }
-{
-    &bytes[..count]
+    let len = bytes.len();
+    bytes.as_mut_slice().copy_within(count..len, 0);
+    bytes.truncate(len - count);
 }
 
 // Finds the end of the first line that is pending from `start` on. Reads only if it isn't there whole.
@@ -184,7 +169,7 @@ fn find<R: Source>(
 }
 
 impl<'a, R: Source> Lines<'a, R> {
-    ghost use Rattle.keep_base.specs.Lines.{lines_left, lines_failed, lines_taken, lines_number, lines_source, lines_name, IsNext, IsEnd, IsInterrupted};
+    ghost use Rattle.keep_base.specs.Lines.{lines_left, lines_text, lines_failed, lines_taken, lines_number, lines_source, lines_name, IsNext, IsEnd, IsInterrupted};
 
     /// A reader of what the source has left. It reads nothing yet, and takes no memory.
     pub fn new(alloc: Global, source: &'a mut R) -> Lines<'a, R>
@@ -192,12 +177,14 @@ impl<'a, R: Source> Lines<'a, R> {
         ensures same_source { lines_source result ≡ source.old }
         ensures left { lines_left result ≡ prepend_known [] (R.left source.old) }
         ensures starts_at_zero { (lines_taken result ≡ 0) × (lines_number result ≡ 0) × (lines_failed result ≡ None) }
+        ensures no_text { lines_text result ≡ [] }
     {
         Lines {
             source,
-            alloc,
             pending: Vec::new(alloc),
             start: 0,
+            text_start: 0,
+            text_len: 0,
             taken: 0,
             number: 0,
             failed: None,
@@ -213,22 +200,26 @@ impl<'a, R: Source> Lines<'a, R> {
         source
     }
 
-    /// Returns the next line, or `None` at the end of the input: then the source has nothing left, nothing is read ahead, and no later call returns a line.
+    /// Reads the next line and returns its number, counted from 1; `text` lends the line. Returns `None` at the end of the input: then the source has nothing left, nothing is read ahead, and no later call returns a line.
     /// After an error each call returns the same error. `ReadFault` comes where the source failed: each line that stood whole in what it gave before was returned, and no byte of it is lost.
-    pub fn next(&mut self) -> Result<Option<Line>, LineError>
+    /// Memory is wanted only for what is read ahead, so `NoMemory` comes only where the line doesn't stand whole in it. At the end and after an error `text` lends nothing.
+    pub fn next(&mut self) -> Result<Option<u64>, LineError>
         ensures same_reference { lines_name self.new ≡ lines_name self.old }
         ensures next_line { (lines_failed self.old) ≡ None →
-            IsNext (lines_taken self.old) (lines_number self.old) (lines_left self.old) result (lines_taken self.new) (lines_left self.new) }
+            IsNext (lines_taken self.old) (lines_number self.old) (lines_left self.old) result (lines_text self.new) (lines_taken self.new) (lines_left self.new) }
         ensures ended { result ≡ Ok None → IsEnd self.old self.new }
         ensures interrupted { result ≡ Err LineError.ReadFault → (lines_failed self.old) ≡ None → IsInterrupted self.old self.new }
-        ensures number { IfOk result (λ o. IfSome o (λ line. (line.number ≡ lines_number self.new) × (lines_number self.new ≡ lines_number self.old + 1))) }
+        ensures number { IfOk result (λ o. IfSome o (λ n. (n ≡ lines_number self.new) × (lines_number self.new ≡ lines_number self.old + 1))) }
         ensures advances { IfOk result (λ o. IfSome o (λ _. (lines_taken self.old) < (lines_taken self.new))) }
         ensures unfailed { OnOk result ((lines_failed self.old ≡ None) × (lines_failed self.new ≡ None)) }
         ensures failed { IfErr result (λ e. (lines_failed self.new) ≡ Some e) }
+        ensures no_text { OnErr result (lines_text self.new ≡ []) }
         ensures same_error { IfSome (lines_failed self.old) (λ e. result ≡ Err e) }
         ensures never_falls { R.faults (lines_source self.old) ≤ R.faults (lines_source self.new) }
         ensures cause { result ≡ Err LineError.ReadFault → (lines_failed self.old) ≡ None → Rose (R.faults (lines_source self.old)) (R.faults (lines_source self.new)) }
     {
+        self.text_start = 0;
+        self.text_len = 0;
         if let Some(error) = self.failed {
             return Err(error);
         }
@@ -239,14 +230,23 @@ impl<'a, R: Source> Lines<'a, R> {
         result
     }
 
-    fn advance(&mut self) -> Result<Option<Line>, LineError>
+    /// The text of the line whose number the last call of `next` returned, without its newline; empty where that call returned none, or before the first call.
+    pub fn text(&self) -> &[u8]
+        ensures { result.now ≡ lines_text self.now }
+    {
+        &self.pending[self.text_start..][..self.text_len]
+    }
+
+    fn advance(&mut self) -> Result<Option<u64>, LineError>
+        requires no_text { (self.old.text_start ≡ 0) × (self.old.text_len ≡ 0) }
         ensures same_reference { lines_name self.new ≡ lines_name self.old }
-        ensures next_line { IsNext (lines_taken self.old) (lines_number self.old) (lines_left self.old) result (lines_taken self.new) (lines_left self.new) }
+        ensures next_line { IsNext (lines_taken self.old) (lines_number self.old) (lines_left self.old) result (lines_text self.new) (lines_taken self.new) (lines_left self.new) }
         ensures ended { result ≡ Ok None → IsEnd self.old self.new }
         ensures interrupted { result ≡ Err LineError.ReadFault → IsInterrupted self.old self.new }
-        ensures number { IfOk result (λ o. IfSome o (λ line. (line.number ≡ lines_number self.new) × (lines_number self.new ≡ lines_number self.old + 1))) }
+        ensures number { IfOk result (λ o. IfSome o (λ n. (n ≡ lines_number self.new) × (lines_number self.new ≡ lines_number self.old + 1))) }
         ensures advances { IfOk result (λ o. IfSome o (λ _. (lines_taken self.old) < (lines_taken self.new))) }
         ensures failed { (lines_failed self.new) ≡ (lines_failed self.old) }
+        ensures no_text { OnErr result (lines_text self.new ≡ []) }
         ensures never_falls { R.faults (lines_source self.old) ≤ R.faults (lines_source self.new) }
         ensures cause { result ≡ Err LineError.ReadFault → Rose (R.faults (lines_source self.old)) (R.faults (lines_source self.new)) }
     {
@@ -255,17 +255,12 @@ impl<'a, R: Source> Lines<'a, R> {
             Ok(None) => return Ok(None),
             Err(stop) => return Err(error_of(stop, self.number + 1)),
         };
-        let Ok(text) = Vec::from_slice(self.alloc, first(&self.pending[self.start..], found.text))
-        else {
-            return Err(LineError::NoMemory);
-        };
+        self.text_start = self.start;
+        self.text_len = found.text;
         self.start += found.piece;
         self.taken += found.piece as u64;
         self.number += 1;
-        Ok(Some(Line {
-            number: self.number,
-            text: Bytes::of(text),
-        }))
+        Ok(Some(self.number))
     }
 }
 

@@ -6,7 +6,7 @@ ghost use Rattle.std.specs.Prelude.{◌≤◌};
 
 use crate::pieces::Pieces;
 use keep_base::{
-    ByteSink, Failed, Line, LineError, Lines, ReaderSource, Sink, Source, WriteFault, WriterSink,
+    ByteSink, Failed, LineError, Lines, ReaderSource, Sink, Source, WriteFault, WriterSink,
     write_all,
 };
 use keep_casebook::{Answer, Case, OutOfMemory, numbers_of};
@@ -45,7 +45,7 @@ fn answer_lines<S: Source>(alloc: Global, case: &Case, source: &mut S, answer: &
     let mut lines = Lines::new(alloc, source);
     for _ in 0..case.number("take", u64::MAX) {
         match lines.next() {
-            Ok(Some(line)) => answer_line(&line, answer),
+            Ok(Some(number)) => answer_line(number, lines.text(), answer),
             Ok(None) => {
                 if !matches!(lines.next(), Ok(None)) {
                     answer.value(b"another end at the next call");
@@ -62,9 +62,8 @@ fn answer_lines<S: Source>(alloc: Global, case: &Case, source: &mut S, answer: &
     }
 }
 
-fn answer_line(line: &Line, answer: &mut Answer) {
-    let text = line.text.as_slice();
-    answer.number(line.number);
+fn answer_line(number: u64, text: &[u8], answer: &mut Answer) {
+    answer.number(number);
     if text.len() > SHOWN {
         answer.text(b" of ");
         answer.number(text.len() as u64);

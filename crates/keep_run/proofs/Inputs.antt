@@ -7,7 +7,6 @@ use Rattle.std.proofs.lemmas.List.{length-append, length-map, length-drop}
 use Rattle.keep_base.specs.Lines.{IsNext}
 use Rattle.std.proofs.KnownBytes.{Appends-kept, Appends-nil}
 use Rattle.std.specs.Io.KnownBytes.{Appends, prepend_known, Keeps as Remains}
-use Rattle.keep_base.specs.declared.lines.Line.{Line}
 use Rattle.keep_base.specs.declared.lines.LineError.{LineError}
 use Rattle.keep_base.specs.declared.lines.LineError.TheVariants as E
 use Rattle.keep_spec.specs.Config.{Configuration}
@@ -473,9 +472,9 @@ module _ {S : Type 0} (told : S → Told) where
 pub begun-devices : (n : ℕ) (whole rest : List ℕ) (c : Configuration) (taken : ℕ) → HasBegun n whole rest c taken → devices_in n whole ≡ length c.devices
 begun-devices n whole rest c taken h = rw (h.first, h.short, h.config_is) refl
 
-pub given-begun : (n taken' : ℕ) (left' : Option (List ℕ)) (line : Line) (bytes : List ℕ) (c : Configuration) → IsNext 0 0 (Some bytes) (Ok (Some line)) taken' left' → config_for n line.text ≡ Ok c → (rest : List ℕ) × ((left' ≡ Some rest) × HasBegun n bytes rest c taken')
-given-begun n taken' None line bytes c g e = absurd g
-given-begun n taken' (Some rest) line bytes c g e = (
+pub given-begun : (n taken' : ℕ) (left' : Option (List ℕ)) (line : ℕ) (text bytes : List ℕ) (c : Configuration) → IsNext 0 0 (Some bytes) (Ok (Some line)) text taken' left' → config_for n text ≡ Ok c → (rest : List ℕ) × ((left' ≡ Some rest) × HasBegun n bytes rest c taken')
+given-begun n taken' None line text bytes c g e = absurd g
+given-begun n taken' (Some rest) line text bytes c g e = (
   rest,
   (
     refl,
@@ -503,16 +502,16 @@ module _ {S : Type 0} (told : S → Told) (bytes : List ℕ) (before : Option (L
   unread-parts ahead None written w p e = absurd p
   unread-parts ahead (Some left) written w p e = ran-unread told bytes before starts old tell-told ahead left (Some left) written w (sym p) e refl
 
-  pub read-error : (error : LineError) (ahead : List ℕ) (unread written : Option (List ℕ)) (taken' : ℕ) (left' : Option (List ℕ)) → Remains before written → IsNext 0 0 (Some bytes) (Err error) taken' left'
+  pub read-error : (error : LineError) (text ahead : List ℕ) (unread written : Option (List ℕ)) (taken' : ℕ) (left' : Option (List ℕ)) → Remains before written → IsNext 0 0 (Some bytes) (Err error) text taken' left'
       → (error ≡ E.ReadFault → Remains (Some bytes) (prepend_known ahead unread) × (newlines ahead ≡ 0)) → StoresRan (map told old) (map told old) bytes before starts (status_of_line error) unread written
-  read-error E.ReadFault ahead unread written taken' left' w next r = let p = r refl in unread-parts ahead unread written w p.0 p.1
-  read-error (E.LineTooLong k) ahead unread written taken' left' w (is, (piece, (rest, (first, v)))) r = ran-long told bytes before starts old tell-told k unread written piece rest w is first v
-  read-error E.InputTooLong ahead unread written taken' left' w (piece, (rest, (first, v))) r = ran-large told bytes before starts old tell-told unread written piece rest w first v
-  read-error E.NoMemory ahead unread written taken' left' w next r = ran-memory told bytes before starts old tell-told unread written w
+  read-error E.ReadFault text ahead unread written taken' left' w next r = let p = r refl in unread-parts ahead unread written w p.0 p.1
+  read-error (E.LineTooLong k) text ahead unread written taken' left' w (is, (piece, (rest, (first, v)))) r = ran-long told bytes before starts old tell-told k unread written piece rest w is first v
+  read-error E.InputTooLong text ahead unread written taken' left' w (piece, (rest, (first, v))) r = ran-large told bytes before starts old tell-told unread written piece rest w first v
+  read-error E.NoMemory text ahead unread written taken' left' w next r = ran-memory told bytes before starts old tell-told unread written w
 
-  pub read-misfit : (status : Status) (unread written : Option (List ℕ)) (taken' : ℕ) (left' : Option (List ℕ)) (line : Line) → Remains before written → IsNext 0 0 (Some bytes) (Ok (Some line)) taken' left' → IsConfigRefusal status (config_for n line.text) → StoresRan (map told old) (map told old) bytes before starts status unread written
-  read-misfit status unread written taken' None line w g r = absurd g
-  read-misfit status unread written taken' (Some rest) line w g r =
+  pub read-misfit : (status : Status) (unread written : Option (List ℕ)) (taken' : ℕ) (left' : Option (List ℕ)) (line : ℕ) (text : List ℕ) → Remains before written → IsNext 0 0 (Some bytes) (Ok (Some line)) text taken' left' → IsConfigRefusal status (config_for n text) → StoresRan (map told old) (map told old) bytes before starts status unread written
+  read-misfit status unread written taken' None line text w g r = absurd g
+  read-misfit status unread written taken' (Some rest) line text w g r =
       ran-misfit told bytes before starts old tell-told status unread written g.piece (cut rest) w g.first (subst (λ x. verdict_of 1048576 1073741824 0 (length x) (length g.piece) ≡ fits) g.text_is g.fits_in)
       (subst (λ k. IsConfigRefusal status (config_for k (text_of g.piece))) told-n (subst (λ x. IsConfigRefusal status (config_for n x)) g.text_is r))
 

@@ -5,7 +5,6 @@ use Rattle.std.proofs.KnownBytes.{Appends-kept, Appends-nil, Appends-trans}
 use Rattle.std.specs.Io.KnownBytes.{Appends, Keeps, IsAtEnd, prepend_known}
 use Rattle.keep_base.specs.Sources.{AppendsPrefix}
 use Rattle.keep_base.specs.Lines.{IsNext, IsGiven, IsNextJudged}
-use Rattle.keep_base.specs.declared.lines.Line.{Line}
 use Rattle.keep_base.specs.declared.lines.LineError.{LineError}
 use Rattle.keep_base.specs.declared.lines.LineError.TheVariants as E
 use Rattle.keep_spec.specs.Lines.{cut, text_of, newlines, Verdict, fits, line_too_long, input_too_long, verdict_of}
@@ -63,9 +62,9 @@ pub record Given (taken taken' : ℕ) (rest : List ℕ) (text : List ℕ) (left'
   pub left_is : left' ≡ Some rest'
   pub given : IsGiven taken taken' rest rest' text
 
-given_of : (taken number taken' : ℕ) (rest : List ℕ) (line : Line) (left' : Option (List ℕ)) → IsNext taken number (Some rest) (Ok (Some line)) taken' left' → Given taken taken' rest line.text left'
-given_of taken number taken' rest line None h = absurd h
-given_of taken number taken' rest line (Some rest') h = record { rest' = rest'; left_is = refl; given = h }
+given_of : (taken number taken' : ℕ) (rest : List ℕ) (line : ℕ) (text : List ℕ) (left' : Option (List ℕ)) → IsNext taken number (Some rest) (Ok (Some line)) text taken' left' → Given taken taken' rest text left'
+given_of taken number taken' rest line text None h = absurd h
+given_of taken number taken' rest line text (Some rest') h = record { rest' = rest'; left_is = refl; given = h }
 
 module _ {S : Type 0} (config : Configuration) (b : Beginning) (old mid : Stage S) (before : Option (List ℕ)) (taken number : ℕ) (left : Option (List ℕ)) (out : Option (List ℕ)) (g : Going config b taken number left old mid before out) where
   abbrev sofar : Progress
@@ -73,7 +72,7 @@ module _ {S : Type 0} (config : Configuration) (b : Beginning) (old mid : Stage 
 
   -- ---- one line
 
-  module _ (taken' : ℕ) (left' : Option (List ℕ)) (line : Line) (gv : Given taken taken' g.rest line.text left') where
+  module _ (taken' : ℕ) (left' : Option (List ℕ)) (line : ℕ) (text : List ℕ) (gv : Given taken taken' g.rest text left') where
     abbrev piece : List ℕ
     piece = gv.given.piece
 
@@ -83,7 +82,7 @@ module _ {S : Type 0} (config : Configuration) (b : Beginning) (old mid : Stage 
     first : cut g.rest ≡ piece ∷ cut gv.rest'
     first = gv.given.first
 
-    effect-here : (others : List ℕ) (o : Option Effect) → effect_of_line config others sofar.scene line.text ≡ o → effect_of_line config others sofar.scene (text_of piece) ≡ o
+    effect-here : (others : List ℕ) (o : Option Effect) → effect_of_line config others sofar.scene text ≡ o → effect_of_line config others sofar.scene (text_of piece) ≡ o
     effect-here others o e = ap (effect_of_line config others sofar.scene) (sym gv.given.text_is) ∙ e
 
     comes-here : (others : List ℕ) → Agrees others sofar.made → lines_place config b others g.lines ≡ Some (place_at taken sofar (piece ∷ cut gv.rest'))
@@ -109,7 +108,7 @@ module _ {S : Type 0} (config : Configuration) (b : Beginning) (old mid : Stage 
       same-out out' k = Appends-kept before out out' sofar.text g.written_is k
 
       -- the line was done, and the next is to come
-      pub more-by : (number' : ℕ) (out' : Option (List ℕ)) (d : HasEffect config sofar.scene mid new (λ failed. effect_of_line config failed sofar.scene line.text)) → number' ≡ number + 1 → d.effect.spent ≡ false → Appends out out' d.effect.text → Going config b taken' number' left' old new before out'
+      pub more-by : (number' : ℕ) (out' : Option (List ℕ)) (d : HasEffect config sofar.scene mid new (λ failed. effect_of_line config failed sofar.scene text)) → number' ≡ number + 1 → d.effect.spent ≡ false → Appends out out' d.effect.text → Going config b taken' number' left' old new before out'
       more-by number' out' d num not_spent o =
           let e = d.effect in
           let does : (others : List ℕ) → Agrees others (sofar.made ++ e.made) → effect_of_line config others sofar.scene (text_of piece) ≡ Some e =
@@ -146,7 +145,7 @@ module _ {S : Type 0} (config : Configuration) (b : Beginning) (old mid : Stage 
       -- ---- a line that ended the run
 
       abbrev does_here : List ℕ → Option Effect
-      does_here failed = effect_of_line config failed sofar.scene line.text
+      does_here failed = effect_of_line config failed sofar.scene text
 
       ran-bad : (n : ℕ) (unread out' : Option (List ℕ)) → n ≡ number + 1 → IsRefused sofar.scene new.cluster does_here → Keeps out out' → RanNow (St.BadLine n) unread out'
       ran-bad n unread out' num r o =
@@ -164,7 +163,7 @@ module _ {S : Type 0} (config : Configuration) (b : Beginning) (old mid : Stage 
             };
           }
 
-      more-of : (failed : List ℕ) (e : Effect) → Agrees failed sofar.made → effect_of_line config failed sofar.scene line.text ≡ Some e → LineMore config b failed
+      more-of : (failed : List ℕ) (e : Effect) → Agrees failed sofar.made → effect_of_line config failed sofar.scene text ≡ Some e → LineMore config b failed
       more-of failed e agree f = record {
         lines = g.lines;
         place = place_at taken sofar (piece ∷ cut gv.rest');
@@ -247,26 +246,26 @@ module _ {S : Type 0} (config : Configuration) (b : Beginning) (old mid : Stage 
       ran-stopped unread out' (inl same) o = ran-between unread out' same o
       ran-stopped unread out' (inr p) o = ran-part unread out' p o
 
-      ran-by : (status : Status) (unread out' : Option (List ℕ)) → line.number ≡ number + 1 → line_done_by config line.number sofar.scene mid new out out' (Err status) does_here → RanNow status unread out'
+      ran-by : (status : Status) (unread out' : Option (List ℕ)) → line ≡ number + 1 → line_done_by config line sofar.scene mid new out out' (Err status) does_here → RanNow status unread out'
       ran-by (St.BadLine n) unread out' num (is, (r, o)) = ran-bad n unread out' (is ∙ num) r o
       ran-by St.PortFault unread out' num (d, (spent, o)) = ran-spent d unread out' spent o
       ran-by St.WriteFault unread out' num (d, o) = ran-unwritten d unread out' o
       ran-by St.NoMemory unread out' num (stopped, o) = ran-stopped unread out' stopped o
       ran-by _ unread out' num h = absurd h
 
-  next-of : (taken' : ℕ) (left' : Option (List ℕ)) (line : Line) → IsNext taken number left (Ok (Some line)) taken' left' → Given taken taken' g.rest line.text left'
-  next-of taken' left' line next = given_of taken number taken' g.rest line left' (subst (λ o. IsNext taken number o (Ok (Some line)) taken' left') g.left_is next)
+  next-of : (taken' : ℕ) (left' : Option (List ℕ)) (line : ℕ) (text : List ℕ) → IsNext taken number left (Ok (Some line)) text taken' left' → Given taken taken' g.rest text left'
+  next-of taken' left' line text next = given_of taken number taken' g.rest line text left' (subst (λ o. IsNext taken number o (Ok (Some line)) text taken' left') g.left_is next)
 
   -- one line more
-  pub going-more : (taken' number' : ℕ) (left' out' : Option (List ℕ)) (new : Stage S) (line : Line) → IsNext taken number left (Ok (Some line)) taken' left' → number' ≡ number + 1 → ((device : ℕ) → faults_at mid.cluster.devices device ≤ faults_at new.cluster.devices device) → IsLineDone config line mid new out out' (Ok tt) → Going config b taken' number' left' old new before out'
-  going-more taken' number' left' out' new line next num never_fall done =
+  pub going-more : (taken' number' : ℕ) (left' out' : Option (List ℕ)) (new : Stage S) (line : ℕ) (text : List ℕ) → IsNext taken number left (Ok (Some line)) text taken' left' → number' ≡ number + 1 → ((device : ℕ) → faults_at mid.cluster.devices device ≤ faults_at new.cluster.devices device) → IsLineDone config line text mid new out out' (Ok tt) → Going config b taken' number' left' old new before out'
+  going-more taken' number' left' out' new line text next num never_fall done =
       let d = done sofar.scene g.scene_is in
-      more-by taken' left' line (next-of taken' left' line next) new never_fall number' out' d.0 num d.1.0 d.1.1
+      more-by taken' left' line text (next-of taken' left' line text next) new never_fall number' out' d.0 num d.1.0 d.1.1
 
   -- the line ended the run
-  pub ran-line : (taken' : ℕ) (left' out' unread : Option (List ℕ)) (new : Stage S) (line : Line) (status : Status) → IsNext taken number left (Ok (Some line)) taken' left' → line.number ≡ number + 1 → ((device : ℕ) → faults_at mid.cluster.devices device ≤ faults_at new.cluster.devices device) → IsLineDone config line mid new out out' (Err status) → LinesRan config b status unread (faults_at old.cluster.devices) (faults_at new.cluster.devices) (world_of new.cluster) before out'
-  ran-line taken' left' out' unread new line status next num never_fall done =
-      ran-by taken' left' line (next-of taken' left' line next) new never_fall status unread out' num (done sofar.scene g.scene_is)
+  pub ran-line : (taken' : ℕ) (left' out' unread : Option (List ℕ)) (new : Stage S) (line : ℕ) (text : List ℕ) (status : Status) → IsNext taken number left (Ok (Some line)) text taken' left' → line ≡ number + 1 → ((device : ℕ) → faults_at mid.cluster.devices device ≤ faults_at new.cluster.devices device) → IsLineDone config line text mid new out out' (Err status) → LinesRan config b status unread (faults_at old.cluster.devices) (faults_at new.cluster.devices) (world_of new.cluster) before out'
+  ran-line taken' left' out' unread new line text status next num never_fall done =
+      ran-by taken' left' line text (next-of taken' left' line text next) new never_fall status unread out' num (done sofar.scene g.scene_is)
 
   -- ---- between lines
 
@@ -284,10 +283,10 @@ module _ {S : Type 0} (config : Configuration) (b : Beginning) (old mid : Stage 
   nothing-unread ahead (Some xs) k e = ap Some e
 
   -- the input has ended
-  pub ran-done : (taken' : ℕ) (left' : Option (List ℕ)) (ahead : List ℕ) (unread : Option (List ℕ)) → IsNext taken number left (Ok None) taken' left' → Keeps left (prepend_known ahead unread) → IsAtEnd unread → Ran St.Done unread
+  pub ran-done : (text : List ℕ) (taken' : ℕ) (left' : Option (List ℕ)) (ahead : List ℕ) (unread : Option (List ℕ)) → IsNext taken number left (Ok None) text taken' left' → Keeps left (prepend_known ahead unread) → IsAtEnd unread → Ran St.Done unread
   unfolding cut
-  ran-done taken' left' ahead unread next keeps e =
-      let nil : g.rest ≡ [] = subst (λ o. IsNext taken number o (Ok None) taken' left') g.left_is next in
+  ran-done text taken' left' ahead unread next keeps e =
+      let nil : g.rest ≡ [] = subst (λ o. IsNext taken number o (Ok None) text taken' left') g.left_is next in
       ran-so St.Done unread (
         record {
           progress = sofar;
@@ -311,9 +310,9 @@ module _ {S : Type 0} (config : Configuration) (b : Beginning) (old mid : Stage 
     did_is = refl;
   }
 
-  error-by : (error : LineError) (taken' : ℕ) (left' : Option (List ℕ)) (ahead : List ℕ) (unread : Option (List ℕ)) → IsNext taken number (Some g.rest) (Err error) taken' left' → (error ≡ E.ReadFault → Keeps (Some g.rest) (prepend_known ahead unread) × (newlines ahead ≡ 0)) → Ran (status_of_line error) unread
+  error-by : (error : LineError) (text : List ℕ) (taken' : ℕ) (left' : Option (List ℕ)) (ahead : List ℕ) (unread : Option (List ℕ)) → IsNext taken number (Some g.rest) (Err error) text taken' left' → (error ≡ E.ReadFault → Keeps (Some g.rest) (prepend_known ahead unread) × (newlines ahead ≡ 0)) → Ran (status_of_line error) unread
   unfolding are-done
-  error-by E.ReadFault taken' left' ahead unread next interrupted =
+  error-by E.ReadFault text taken' left' ahead unread next interrupted =
       let k = interrupted refl in
       let p = unread-parts ahead unread k.0 in
       ran-so St.ReadFault unread (record {
@@ -323,15 +322,15 @@ module _ {S : Type 0} (config : Configuration) (b : Beginning) (old mid : Stage 
         are_read = read-out b.bytes g.rest ahead p.0 g.lines g.are_read p.1.1 k.1;
         are_done = are-done;
       })
-  error-by (E.LineTooLong n) taken' left' ahead unread next interrupted =
+  error-by (E.LineTooLong n) text taken' left' ahead unread next interrupted =
       ran-so (St.LineTooLong n) unread (judged line_too_long (St.LineTooLong n) next.1 (λ piece rest v.
       run-long config (faulty sofar.made) taken number sofar piece rest v ∙ ap (λ k. ended_by (St.LineTooLong k) sofar) (sym next.0)))
-  error-by E.InputTooLong taken' left' ahead unread next interrupted =
+  error-by E.InputTooLong text taken' left' ahead unread next interrupted =
       ran-so St.InputTooLong unread (judged input_too_long St.InputTooLong next (λ piece rest v. run-large config (faulty sofar.made) taken number sofar piece rest v))
-  error-by E.NoMemory taken' left' ahead unread next interrupted = ran-so St.NoMemory unread (inl (g.lines, are-done))
+  error-by E.NoMemory text taken' left' ahead unread next interrupted = ran-so St.NoMemory unread (inl (g.lines, are-done))
 
   -- the next line can't be read
-  pub ran-error : (error : LineError) (taken' : ℕ) (left' : Option (List ℕ)) (ahead : List ℕ) (unread : Option (List ℕ)) → IsNext taken number left (Err error) taken' left' → (error ≡ E.ReadFault → Keeps left (prepend_known ahead unread) × (newlines ahead ≡ 0)) → Ran (status_of_line error) unread
-  ran-error error taken' left' ahead unread next interrupted =
-      error-by error taken' left' ahead unread (subst (λ o. IsNext taken number o (Err error) taken' left') g.left_is next)
+  pub ran-error : (error : LineError) (text : List ℕ) (taken' : ℕ) (left' : Option (List ℕ)) (ahead : List ℕ) (unread : Option (List ℕ)) → IsNext taken number left (Err error) text taken' left' → (error ≡ E.ReadFault → Keeps left (prepend_known ahead unread) × (newlines ahead ≡ 0)) → Ran (status_of_line error) unread
+  ran-error error text taken' left' ahead unread next interrupted =
+      error-by error text taken' left' ahead unread (subst (λ o. IsNext taken number o (Err error) text taken' left') g.left_is next)
       (λ is. subst (λ o. Keeps o (prepend_known ahead unread) × (newlines ahead ≡ 0)) g.left_is (interrupted is))

@@ -5,7 +5,6 @@ use Rattle.keep_spec.specs.declared.status.Status.{Status}
 use Rattle.keep_spec.specs.declared.status.Status.TheVariants as St
 use Rattle.std.specs.Io.KnownBytes.{Appends, Keeps}
 use Rattle.keep_base.specs.Sources.{AppendsPrefix}
-use Rattle.keep_base.specs.declared.lines.Line.{Line}
 use Rattle.keep_cluster.specs.Cluster.{View, world_of, faults_at}
 use Rattle.keep_history.specs.declared.task.Command.{Command}
 use Rattle.keep_history.specs.declared.task.TaskState.{TaskState}
@@ -91,9 +90,9 @@ line_done_by config number scene old new before written (Err St.WriteFault) f =
 line_done_by config number scene old new before written (Err St.NoMemory) f = IsStopped scene old.cluster new.cluster f × Keeps before written
 line_done_by config number scene old new before written (Err other) f = ⊥
 
-abbrev pub IsLineDone : {S : Type 0} → Configuration → Line → Stage S → Stage S → Option (List ℕ) → Option (List ℕ) → Result (Unit {0}) Status → Type 0
-IsLineDone config line old new before written result = (scene : Scene) → IsSceneOf config old scene →
-    line_done_by config line.number scene old new before written result (λ failed. effect_of_line config failed scene line.text)
+abbrev pub IsLineDone : {S : Type 0} → Configuration → ℕ → List ℕ → Stage S → Stage S → Option (List ℕ) → Option (List ℕ) → Result (Unit {0}) Status → Type 0
+IsLineDone config number text old new before written result = (scene : Scene) → IsSceneOf config old scene →
+    line_done_by config number scene old new before written result (λ failed. effect_of_line config failed scene text)
 
 -- what asking a name up to so many times did, by its answer, and where memory was refused
 abbrev pub IsAskingDone : {S : Type 0} → ℕ → Configuration → List ℕ → ℕ → Stage S → Stage S → List ℕ → List ℕ → Done → Type 0

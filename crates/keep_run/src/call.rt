@@ -111,12 +111,12 @@ fn run_input<R: Source, W: Sink, S: Store>(
     ensures write { result ≡ Status.WriteFault → Rose (W.faults sink.old) (W.faults sink.new) }
     ensures read { result ≡ Status.ReadFault → Rose (R.faults (lines_source lines.old)) (R.faults (lines_source lines.new)) }
 {
-    let first = match lines.next() {
-        Ok(Some(first)) => first,
+    match lines.next() {
+        Ok(Some(_)) => {}
         Ok(None) => return Status::BadConfig { field: Field::Line },
         Err(error) => return status_of(error),
-    };
-    match read_config(alloc, first.text.as_slice(), stores.len()) {
+    }
+    match read_config(alloc, lines.text(), stores.len()) {
         Ok(config) => run_stores(alloc, &config, lines, sink, stores),
         Err(status) => status,
     }

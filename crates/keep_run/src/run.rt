@@ -12,7 +12,7 @@ ghost use Rattle.keep_run.specs.Scenes.{IsStageOf, IsFresh, HasRoom, GrowsByLine
 ghost use Rattle.keep_spec.specs.declared.config.Field.{Field as TheField};
 
 use crate::stage::{Done, Stage, do_command};
-use keep_base::{Line, LineError, Lines, Sink, Source, WriteFault, write_all};
+use keep_base::{LineError, Lines, Sink, Source, WriteFault, write_all};
 use keep_config::Config;
 use keep_script::{CommandError, read_line};
 use keep_spec::{NoMemory, Status};
@@ -38,17 +38,18 @@ fn write_text<W: Sink>(sink: &mut W, text: &[u8], spent: bool) -> Result<(), Sta
     }
 }
 
-// Does one line, and writes its text in one piece. An empty line does nothing.
+// Does the line of a number, and writes what it prints in one piece. An empty line does nothing.
 fn run_line<W: Sink, S: Store>(
     alloc: Global,
     config: &Config,
-    line: &Line,
+    number: u64,
+    text: &[u8],
     stage: &mut Stage<'_, S>,
     sink: &mut W,
 ) -> Result<(), Status>
     requires sound { IsStageOf config.now stage.old }
     requires room { HasRoom stage.old }
-    ensures told { IsLineDone config.now line.now stage.old stage.new (W.taken sink.old) (W.taken sink.new) result }
+    ensures told { IsLineDone config.now number text.now stage.old stage.new (W.taken sink.old) (W.taken sink.new) result }
     ensures of_line { IsOfLine result }
     ensures sound { IfOk result (λ _. IsStageOf config.now stage.new) }
     ensures grows { GrowsByLine stage.old stage.new }
@@ -57,11 +58,10 @@ fn run_line<W: Sink, S: Store>(
     ensures sink_never_falls { W.faults sink.old ≤ W.faults sink.new }
     ensures cause { result ≡ Err Status.WriteFault → Rose (W.faults sink.old) (W.faults sink.new) }
 {
-    if line.text.as_slice().is_empty() {
+    if text.is_empty() {
         return Ok(());
     }
-    let number = line.number;
-    let command = match read_line(alloc, config, &stage.names, line.text.as_slice()) {
+    let command = match read_line(alloc, config, &stage.names, text) {
         Ok(command) => command,
         Err(CommandError::NotALine) => return Err(Status::BadLine { number }),
         Err(CommandError::NoMemory) => return Err(Status::NoMemory),
@@ -112,12 +112,12 @@ pub(crate) fn run_lines<R: Source, W: Sink, S: Store>(
     ensures read { result ≡ Status.ReadFault → Rose (R.faults (lines_source lines.old)) (R.faults (lines_source lines.new)) }
 {
     loop {
-        let line = match lines.next() {
-            Ok(Some(line)) => line,
+        let number = match lines.next() {
+            Ok(Some(number)) => number,
             Ok(None) => return Status::Done,
             Err(error) => return status_of(error),
         };
-        match run_line(alloc, config, &line, stage, sink) {
+        match run_line(alloc, config, number, lines.text(), stage, sink) {
             Ok(()) => {}
             Err(status) => return status,
         }

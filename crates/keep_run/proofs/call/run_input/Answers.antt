@@ -14,7 +14,7 @@ pub returns-in-Err-clause-told : goal.returns-in-Err-clause-told
 returns-in-Err-clause-told g c = λ bytes starts left tell.
     let next = c.in-Err.ensures.next_line c.requires.unfailed in
     let next' = rw (c.requires.taken, c.requires.number, left) at next in
-    rw c.status_of.ensures (read-error (told_of g.S.Store.held g.S.Store.noted g.S.Store.faults) bytes _ starts c.args.stores.now.items _ c.args.stores.now.ok.0 tell c.in-Err.error (lines_ahead c.next.new.self) _ _ _ _ (Keeps-refl _) next'
+    rw c.status_of.ensures (read-error (told_of g.S.Store.held g.S.Store.noted g.S.Store.faults) bytes _ starts c.args.stores.now.items _ c.args.stores.now.ok.0 tell c.in-Err.error _ (lines_ahead c.next.new.self) _ _ _ _ (Keeps-refl _) next'
     (λ e. let i = c.in-Err.ensures.interrupted (ap Err e) c.requires.unfailed in (rw left at i.left_stays, i.no_newline)))
 
 pub returns-in-Ok-clause-told : goal.returns-in-Ok-clause-told
@@ -22,8 +22,8 @@ returns-in-Ok-clause-told g c = λ bytes starts left tell.
     let told = told_of g.S.Store.held g.S.Store.noted g.S.Store.faults in
     let next = (rw c.in-Ok-Some.field-0-is at c.in-Ok-Some.ensures.next_line) c.requires.unfailed in
     let next' = rw (c.requires.taken, c.requires.number, left) at next in
-    let config = rw (c.len.ensures, c.as_slice.ensures) at c.in-Ok.ensures.ok in
-    let begun = given-begun _ _ _ c.in-Ok-Some.first bytes c.in-Ok.config next' config in
+    let config = rw (c.len.ensures, c.text.ensures) at c.in-Ok.ensures.ok in
+    let begun = given-begun _ _ _ c.in-Ok-Some.field-0-0 _ bytes c.in-Ok.config next' config in
     let tell' = subst (λ n. FirstTell n (told_by g.S.Store.held g.S.Store.noted g.S.Store.faults c.args.stores.now.items) starts) (begun-devices _ bytes _ _ _ begun.1.1) tell in
     c.run_stores.ensures.told bytes begun.0 starts begun.1.0 begun.1.1 tell'
 
@@ -31,13 +31,13 @@ pub returns-in-Ok-clause-others : goal.returns-in-Ok-clause-others
 returns-in-Ok-clause-others g c = λ bytes left.
     let next = (rw c.in-Ok-Some.field-0-is at c.in-Ok-Some.ensures.next_line) c.requires.unfailed in
     let next' = rw (c.requires.taken, c.requires.number, left) at next in
-    let config = rw (c.len.ensures, c.as_slice.ensures) at c.in-Ok.ensures.ok in
-    let begun = given-begun _ _ _ c.in-Ok-Some.first bytes c.in-Ok.config next' config in
+    let config = rw (c.len.ensures, c.text.ensures) at c.in-Ok.ensures.ok in
+    let begun = given-begun _ _ _ c.in-Ok-Some.field-0-0 _ bytes c.in-Ok.config next' config in
     rw (begun-devices _ bytes _ _ _ begun.1.1) c.run_stores.ensures.others
 
-pub returns-clause-told : goal.returns-clause-told
-returns-clause-told g c = λ bytes starts left tell.
+pub returns-in-Err-read_config-clause-told : goal.returns-in-Err-read_config-clause-told
+returns-in-Err-read_config-clause-told g c = λ bytes starts left tell.
     let next = (rw c.in-Ok-Some.field-0-is at c.in-Ok-Some.ensures.next_line) c.requires.unfailed in
     let next' = rw (c.requires.taken, c.requires.number, left) at next in
-    let refused = rw (c.len.ensures, c.as_slice.ensures) at c.in-Err-read_config.ensures.err in
-    read-misfit (told_of g.S.Store.held g.S.Store.noted g.S.Store.faults) bytes _ starts c.args.stores.now.items _ c.args.stores.now.ok.0 tell c.in-Err-read_config.status _ _ _ _ c.in-Ok-Some.first (Keeps-refl _) next' refused
+    let refused = rw (c.len.ensures, c.text.ensures) at c.in-Err-read_config.ensures.err in
+    read-misfit (told_of g.S.Store.held g.S.Store.noted g.S.Store.faults) bytes _ starts c.args.stores.now.items _ c.args.stores.now.ok.0 tell c.in-Err-read_config.status _ _ _ _ c.in-Ok-Some.field-0-0 _ (Keeps-refl _) next' refused

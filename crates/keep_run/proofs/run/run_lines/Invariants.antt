@@ -8,8 +8,8 @@ use Rattle.keep_run.specs.Runs.{beginning}
 use Rattle.keep_run.specs.Scenes.{IsStageOf}
 use Rattle.keep_run.proofs.run.run_lines.Given as goal
 
-abbrev pub invariant-loop-line : goal.invariant-loop-line
-invariant-loop-line g l = record {
+abbrev pub invariant-loop-number : goal.invariant-loop-number
+invariant-loop-number g l = record {
   unfailed : lines_failed l.lines ≡ None;
   names : length l.stage.names.entries ≤ 2 * lines_number l.lines;
   sound : IsStageOf l.config l.stage;
@@ -22,5 +22,5 @@ invariant-loop-line g l = record {
       Going l.config (beginning (lines_taken l.fn.lines) (lines_number l.fn.lines) bytes) (lines_taken l.lines) (lines_number l.lines) (lines_left l.lines) l.fn.stage l.stage (g.W.Sink.taken l.fn.sink) (g.W.Sink.taken l.sink);
 }
 
-abbrev pub decreases-loop-line : goal.decreases-loop-line
-decreases-loop-line g l = 1073741824 - lines_taken l.lines
+abbrev pub decreases-loop-number : goal.decreases-loop-number
+decreases-loop-number g l = 1073741824 - lines_taken l.lines

@@ -1,5 +1,4 @@
-use Rattle.std.proofs.Common.{◌≡◌, ◌+◌, take, drop, refl, arith}
-use Rattle.std.proofs.lemmas.Grind.{common_steps}
+use Rattle.std.proofs.Common.{◌≡◌, ◌+◌, refl}
 use Rattle.std.proofs.lemmas.List.{drop-drop}
 use Rattle.keep_base.specs.declared.lines.LineError.TheVariants as E
 use Rattle.keep_base.specs.Ends.{error_of_stop}
@@ -8,15 +7,14 @@ use Rattle.keep_base.proofs.NextLine.{next_given, next_stopped}
 use Rattle.keep_base.proofs.lines.Lines.advance.Goals as goal
 
 pub returns-in-Err-clause-next_line : goal.returns-in-Err-clause-next_line
-returns-in-Err-clause-next_line g c = rw c.error_of.ensures (next_stopped _ _ _ _ _ _ _ _ c.in-Err.stop c.args.self.now.in_range c.in-Err.ensures.bytes c.in-Err.ensures.found)
+returns-in-Err-clause-next_line g c = rw c.error_of.ensures (next_stopped _ _ _ _ _ _ _ _ _ c.in-Err.stop c.args.self.now.in_range c.in-Err.ensures.bytes c.in-Err.ensures.found)
 
 pub returns-clause-next_line : goal.returns-clause-next_line
 returns-clause-next_line g c =
     let found = rw c.in-Ok-Some.field-0-is at c.in-Ok-Some.ensures.found in
     let read = c.find.new.pending.items in
     let start = c.find.new.start in
-    let text : c.of.result ≡ take c.in-Ok-Some.found.text (drop start read) = grind (arith, common_steps) in
-    rw (← drop-drop c.in-Ok-Some.found.piece start read) (next_given _ _ _ _ _ _ _ _ _ c.in-Ok-Some.ensures.bytes found.0 found.1 text refl)
+    rw (← drop-drop c.in-Ok-Some.found.piece start read) (next_given _ _ _ _ _ _ _ _ _ c.in-Ok-Some.ensures.bytes found.0 found.1 refl)
 
 pub returns-in-Err-clause-interrupted : goal.returns-in-Err-clause-interrupted
 returns-in-Err-clause-interrupted g c = λ e.
