@@ -19,7 +19,7 @@ use Rattle.keep_event.specs.Device.{State, initial}
 use Rattle.keep_event.specs.World.{World, rules_of}
 use Rattle.keep_event.specs.declared.names.Name.{Name}
 use Rattle.keep_event.specs.declared.names.Stored.{Stored}
-use Rattle.keep_cluster.specs.Cluster.{HasDevices, View, faults_at, states_of, with_known, world_of}
+use Rattle.keep_cluster.specs.Cluster.{HasDevices, View, faults_at, states_of, told_state, with_known, world_of}
 use Rattle.keep_volume.specs.Calls.{VolumeView, state_of}
 use Rattle.keep_history.specs.Effects.{Made}
 use Rattle.keep_history.specs.Ended.{AreRead, Begun, HowEnded, IsBetween, IsOwn, OneMore, RiseFrom, RisesBy, Work, begun_of, done_after, faults_on, faulty, place_after, script_place, work_of}
@@ -27,8 +27,9 @@ use Rattle.keep_history.specs.Run.{Kept, at_start, config_for, first_filled, is_
 use Rattle.keep_history.proofs.Scripts.{ends-whole}
 use Rattle.keep_run.specs.Going.{status_of_line}
 use Rattle.keep_run.specs.Runs.{AreDone, Beginning, Did, HowLinesEnded, IsRunOut, LineMore, LinesRan, beginning}
-use Rattle.keep_run.specs.Stores.{AllPairs, AreBare, AreGiven, AreOpened, AreRefused, FirstKeep, FirstTell, HasBegun, IsConfigRefusal, IsFilledAt, IsGiven, IsOver, IsSame, Keeps, RanWhole, StoresRan, Tells, Told, counts, devices_in}
-use Rattle.keep_run.proofs.OpenedStores.{pairs-length, same-all}
+use Rattle.keep_run.specs.Stores.{AllPairs, AreBare, AreGiven, AreOpened, AreRefused, FirstTell, HasBegun, IsConfigRefusal, IsFilledAt, IsGiven, IsOver, IsSame, RanWhole, StoresRan, Tells, Told, counts, devices_in}
+use Rattle.keep_run.proofs.OpenedStores.{over-note, pairs-length, same-all, told-round}
+use Rattle.keep_cluster.proofs.Devices.{told-is, told-note}
 use Rattle.keep_run.proofs.Pieces.{newlines-append, read-more, read-start}
 
 -- ---- what the first stores tell and keep
@@ -40,7 +41,7 @@ tell-many (suc n) [] (k ∷ ks) t = absurd t
 tell-many (suc n) (s ∷ ss) [] t = absurd t
 tell-many (suc n) (s ∷ ss) (k ∷ ks) t = ap suc (tell-many n ss ks t.1)
 
-same-keep : (n : ℕ) (old new : List Told) (ks : List Kept) → AllPairs IsSame old new → FirstTell n old ks → FirstKeep n new ks
+same-keep : (n : ℕ) (old new : List Told) (ks : List Kept) → AllPairs IsSame old new → FirstTell n old ks → FirstTell n new ks
 same-keep zero old new ks s t = sym (pairs-length IsSame old new s) ∙ t
 same-keep (suc n) [] [] [] s t = tt
 same-keep (suc n) [] [] (k ∷ ks) s t = absurd t
@@ -74,8 +75,8 @@ held-none k e = none k.held (eqb-true (length k.held) 0 (and_parts (length k.hel
     none [] n = refl
     none (x ∷ es) n = absurd (omega (arith, n))
 
-initial-state : (s : Told) (d : VolumeView) (k : Kept) → IsOver s d → Tells s k → state_of d ≡ Some initial
-initial-state s d k v t = rw (v.held ∙ (t.held ∙ ap Some (held-none k (v.bare k t))), v.round, v.trash, v.pull) refl
+initial-state : (s : Told) (d : VolumeView) (k : Kept) → IsOver s d → Tells s k → told_state d ≡ Some initial
+initial-state s d k v t = rw (over-note s d k v t, v.held ∙ (t.held ∙ ap Some (held-none k (v.bare k t))), v.round, v.trash, v.pull) refl
 
 initial-states : {S : Type 0} (told : S → Told) (first left : List S) (ds : List VolumeView) (ks : List Kept) (devices : List Device) → length first ≡ length devices → AllPairs IsOver (map told first) ds → FirstTell (length first) (map told (first ++ left)) ks → states_of ds ≡ Some (map (λ d. initial) devices)
 initial-states told [] left [] ks [] n v t = refl
@@ -94,27 +95,23 @@ over-bare told (s ∷ first) left (d ∷ ds) v = (v.0.bare, over-bare told first
 
 -- ---- what is left
 
-given-keeps : (d : VolumeView) (s : Told) (x : State) → IsGiven d s → state_of d ≡ Some x → Keeps s (kept_by x)
-given-keeps d s x g e = by d.held refl
+given-tells : (d : VolumeView) (s : Told) (x : State) → IsGiven d s → told_state d ≡ Some x → Tells s (kept_by x)
+given-tells d s x g e = by d.held refl (told-is d x e)
   where
     same : {a b : State} → Some a ≡ Some b → a ≡ b
     same e = cc
 
-    note : (o : Option ℕ) → d.round ≡ x.round → IfSome o (λ n. n ≡ d.round) → IfSome o (λ n. n ≡ x.round)
-    note None r h = tt
-    note (Some n) r h = h ∙ r
-
-    by : (o : Option (List (Name × Stored))) → d.held ≡ o → Keeps s (kept_by x)
-    by None h = absurd (no (rw h at e))
+    by : (o : Option (List (Name × Stored))) → d.held ≡ o → state_of d ≡ Some x → Tells s (kept_by x)
+    by None h is = absurd (no (rw h at is))
       where
         no : None ≡ Some x → ⊥
         no e = cc
-    by (Some es) h =
-        let y : record { held = es; round = d.round; trash = d.trash; pull = d.pull } ≡ x = same (rw h at e) in
-        record { held = g.held ∙ (h ∙ ap (λ (z : State). Some z.held) y); noted = note s.noted (ap (λ (z : State). z.round) y) g.noted }
+    by (Some es) h is =
+        let y : record { held = es; round = d.round; trash = d.trash; pull = d.pull } ≡ x = same (rw h at is) in
+        record { held = g.held ∙ (h ∙ ap (λ (z : State). Some z.held) y); noted = g.noted ∙ (told-round d (told-note d x e) ∙ ap (λ (z : State). Some z.round) y) }
 
-known-parts : (d : VolumeView) (ds : List VolumeView) (ss : List State) → states_of (d ∷ ds) ≡ Some ss → (x : State) × ((xs : List State) × ((state_of d ≡ Some x) × (states_of ds ≡ Some xs) × (ss ≡ x ∷ xs)))
-known-parts d ds ss e = by (state_of d) (states_of ds) refl refl e
+known-parts : (d : VolumeView) (ds : List VolumeView) (ss : List State) → states_of (d ∷ ds) ≡ Some ss → (x : State) × ((xs : List State) × ((told_state d ≡ Some x) × (states_of ds ≡ Some xs) × (ss ≡ x ∷ xs)))
+known-parts d ds ss e = by (told_state d) (states_of ds) refl refl e
   where
     no : None ≡ Some ss → ⊥
     no e = cc
@@ -122,12 +119,12 @@ known-parts d ds ss e = by (state_of d) (states_of ds) refl refl e
     same : {a b : List State} → Some a ≡ Some b → a ≡ b
     same e = cc
 
-    by : (o : Option State) (os : Option (List State)) → state_of d ≡ o → states_of ds ≡ os → with_known o os ≡ Some ss → (x : State) × ((xs : List State) × ((state_of d ≡ Some x) × (states_of ds ≡ Some xs) × (ss ≡ x ∷ xs)))
+    by : (o : Option State) (os : Option (List State)) → told_state d ≡ o → states_of ds ≡ os → with_known o os ≡ Some ss → (x : State) × ((xs : List State) × ((told_state d ≡ Some x) × (states_of ds ≡ Some xs) × (ss ≡ x ∷ xs)))
     by None os a b e = absurd (no e)
     by (Some x) None a b e = absurd (no e)
     by (Some x) (Some xs) a b e = (x, (xs, (a, b, sym (same e))))
 
-keep-left : {S : Type 0} (told : S → Told) (first left : List S) (ds : List VolumeView) (ss : List State) (rest : List Kept) → AllPairs IsGiven ds (map told first) → states_of ds ≡ Some ss → length (map told left) ≡ length rest → FirstKeep (length ds) (map told (first ++ left)) (map kept_by ss ++ rest)
+keep-left : {S : Type 0} (told : S → Told) (first left : List S) (ds : List VolumeView) (ss : List State) (rest : List Kept) → AllPairs IsGiven ds (map told first) → states_of ds ≡ Some ss → length (map told left) ≡ length rest → FirstTell (length ds) (map told (first ++ left)) (map kept_by ss ++ rest)
 keep-left told [] left [] ss rest g e n =
     let none : ss ≡ [] = sym (same e) in
     rw none n
@@ -138,7 +135,7 @@ keep-left told (s ∷ first) left [] ss rest g e n = absurd g
 keep-left told [] left (d ∷ ds) ss rest g e n = absurd g
 keep-left told (s ∷ first) left (d ∷ ds) ss rest g e n =
     let p = known-parts d ds ss e in
-    rw p.1.1.2 (given-keeps d (told s) p.0 g.0 p.1.1.0, keep-left told first left ds p.1.0 rest g.1 p.1.1.1 n)
+    rw p.1.1.2 (given-tells d (told s) p.0 g.0 p.1.1.0, keep-left told first left ds p.1.0 rest g.1 p.1.1.1 n)
 
 states-many : (ds : List VolumeView) (ss : List State) → states_of ds ≡ Some ss → length ss ≡ length ds
 states-many [] ss e = ap length (sym (same e))

@@ -1,9 +1,9 @@
 -- Stores that devices are opened over, and that are given back: `over-given` and `stays-same` on one store; `same-all`, `pairs-last`, `pairs-length`; the loops by `giving-start`, `giving-more`, `giving-end`, `going-start`, `going-more`, `going-end`, `going-rules`, `refused-given`.
-use Rattle.std.proofs.Common.{◌≡◌, ℕ, zero, suc, ◌+◌, ◌-◌, ◌<◌, ◌≤◌, true, List, [], ◌∷◌, ◌++◌, length, Option, None, Some, IfSome, refl, sym, ◌∙◌, ap, subst, arith, append_assoc}
+use Rattle.std.proofs.Common.{◌≡◌, ℕ, zero, suc, ◌+◌, ◌-◌, ◌<◌, ◌≤◌, true, List, [], ◌∷◌, ◌++◌, length, Option, None, Some, refl, sym, ◌∙◌, ap, subst, arith, append_assoc}
 use Rattle.std.proofs.lemmas.List.{append-nil, length-append, length-map}
 use Rattle.std.proofs.lemmas.Bool.{and_parts, eqb-true}
 use Rattle.std.proofs.Math.Seq.{take-length}
-use Rattle.std.specs.Prelude.{◌==◌, map, take, drop, slice_get}
+use Rattle.std.specs.Prelude.{◌==◌, map, take, drop, is_some, if◌then◌else◌, slice_get}
 use Rattle.keep_spec.specs.Causes.{Rose}
 use Rattle.keep_spec.specs.Config.{Configuration}
 use Rattle.keep_spec.specs.declared.config.Device.{Device}
@@ -14,21 +14,14 @@ use Rattle.keep_event.specs.World.{rules_of, device_rules}
 use Rattle.keep_history.specs.Ended.{RisesBy}
 use Rattle.keep_history.specs.Run.{Kept, is_empty}
 use Rattle.keep_cluster.specs.Cluster.{HasDevices}
-use Rattle.keep_volume.specs.Calls.{VolumeView}
-use Rattle.keep_run.specs.Stores.{Told, Tells, Keeps, AllPairs, IsFilled, IsSame, IsOver, IsGiven, AreBare, IsFilledAt, IsRefused, AreRefused, AreOpened, AreGiven, IsNextOpened, IsNextRefused, count_of}
+use Rattle.keep_volume.specs.Calls.{VolumeView, note_of}
+use Rattle.keep_run.specs.Stores.{Told, Tells, AllPairs, IsFilled, IsSame, IsOver, IsGiven, AreBare, IsFilledAt, IsRefused, AreRefused, AreOpened, AreGiven, IsNextOpened, IsNextRefused, count_of}
 
 -- ---- one store
 
 -- a store that was returned unchanged
-pub returned-same : (s s' : Told) → s'.held ≡ s.held → s'.noted ≡ s.noted → (k : Kept) → Tells s k → Keeps s' k
-returned-same s s' h n k t = record { held = h ∙ t.held; noted = by s'.noted (n ∙ t.noted) }
-  where
-    by : (o : Option ℕ) → o ≡ Some k.round → IfSome o (λ n. n ≡ k.round)
-    by None e = tt
-    by (Some m) e = some-same e
-      where
-        some-same : Some m ≡ Some k.round → m ≡ k.round
-        some-same e = cc
+pub returned-same : (s s' : Told) → s'.held ≡ s.held → s'.noted ≡ s.noted → (k : Kept) → Tells s k → Tells s' k
+returned-same s s' h n k t = record { held = h ∙ t.held; noted = n ∙ t.noted }
 
 pub never-falls : (before now : ℕ) → before ≤ now → RisesBy 0 before now
 never-falls before now le = λ small. omega (arith, le)
@@ -39,15 +32,18 @@ rose-rises before now r = λ small. omega (arith, r, small)
 round-zero : (k : Kept) → is_empty k ≡ true → k.round ≡ 0
 round-zero k e = eqb-true k.round 0 (and_parts (length k.held == 0) (k.round == 0) e).1
 
+-- a device over a store that tells tells the round as its note
+pub over-note : (s : Told) (d : VolumeView) (k : Kept) → IsOver s d → Tells s k → d.tells_note ≡ true
+over-note s d k v t = v.tells_note ∙ ap is_some t.noted
+
+pub told-round : (d : VolumeView) → d.tells_note ≡ true → note_of d ≡ Some d.round
+told-round d e = ap (λ b. if b then Some d.round else None) e
+
 over-given : (o g : Told) (d : VolumeView) → IsOver o d → IsGiven d g → IsSame o g
 over-given o g d v w = record {
-  keeps = λ k t. record { held = w.held ∙ (v.held ∙ t.held); noted = by k t g.noted w.noted };
+  keeps = λ k t. record { held = w.held ∙ (v.held ∙ t.held); noted = w.noted ∙ (told-round d (over-note o d k v t) ∙ ap Some (v.round ∙ sym (round-zero k (v.bare k t)))) };
   never_falls = λ small. omega (arith, v.never_falls, w.faults);
 }
-  where
-    by : (k : Kept) → Tells o k → (n : Option ℕ) → IfSome n (λ m. m ≡ d.round) → IfSome n (λ m. m ≡ k.round)
-    by k t None e = tt
-    by k t (Some m) e = e ∙ (v.round ∙ sym (round-zero k (v.bare k t)))
 
 stays-same : (s : Told) → IsSame s s
 stays-same s = record { keeps = returned-same s s refl refl; never_falls = λ small. omega arith }

@@ -1,5 +1,5 @@
 -- What a run finds in its stores, and what it leaves there.
-use Rattle.std.specs.Prelude.{◌≡◌, ◌≤◌, ◌<◌, ◌++◌, ⊤, ℕ, zero, suc, List, [], ◌∷◌, length, map, slice_index_or, Option, Some, IfSome, true, false, Result, Ok, Err}
+use Rattle.std.specs.Prelude.{◌≡◌, ◌≤◌, ◌<◌, ◌++◌, ⊤, ℕ, zero, suc, List, [], ◌∷◌, length, map, slice_index_or, Option, Some, is_some, true, false, Result, Ok, Err}
 use Rattle.std.specs.Io.KnownBytes.{Appends}
 use Rattle.std.specs.Option.{option_map_or}
 use Rattle.keep_spec.specs.Causes.{Rose}
@@ -14,7 +14,7 @@ use Rattle.keep_event.specs.declared.device.DeviceRules.{DeviceRules}
 use Rattle.keep_history.specs.Ended.{Begun, Ran, RisesBy, Work, begun_of, faulty}
 use Rattle.keep_history.specs.Run.{Kept, config_for, is_empty, verdict_on}
 use Rattle.keep_history.specs.Whole.{EndsWhole, IsScript}
-use Rattle.keep_volume.specs.Calls.{VolumeView}
+use Rattle.keep_volume.specs.Calls.{VolumeView, note_of}
 
 -- ---- what a store tells
 
@@ -38,15 +38,10 @@ counts stores = map (λ s. s.faults) stores
 abbrev pub count_of : ℕ → List Told → ℕ
 count_of device stores = slice_index_or (counts stores) device 0
 
--- a store tells that it keeps this
+-- a store tells that it keeps this: what it holds, and the round as its note
 pub record Tells (s : Told) (k : Kept) : Type 0 where
   pub held : s.held ≡ Some k.held
   pub noted : s.noted ≡ Some k.round
-
--- a store keeps this
-pub record Keeps (s : Told) (k : Kept) : Type 0 where
-  pub held : s.held ≡ Some k.held
-  pub noted : IfSome s.noted (λ n. n ≡ k.round)
 
 -- the first stores tell that they keep these, one for each; there are as many of these as stores
 abbrev pub FirstTell : ℕ → List Told → List Kept → Type 0
@@ -54,13 +49,6 @@ FirstTell zero ss ks = length ss ≡ length ks
 FirstTell (suc n) [] [] = ⊤
 FirstTell (suc n) (s ∷ ss) (k ∷ ks) = Tells s k × FirstTell n ss ks
 FirstTell (suc n) _ _ = ⊥
-
--- the first stores keep these, one for each; there are as many of these as stores
-abbrev pub FirstKeep : ℕ → List Told → List Kept → Type 0
-FirstKeep zero ss ks = length ss ≡ length ks
-FirstKeep (suc n) [] [] = ⊤
-FirstKeep (suc n) (s ∷ ss) (k ∷ ks) = Keeps s k × FirstKeep n ss ks
-FirstKeep (suc n) _ _ = ⊥
 
 -- ---- pairs
 
@@ -79,24 +67,25 @@ IsBare s = (k : Kept) → Tells s k → is_empty k ≡ true
 abbrev pub IsFilled : Told → Type 0
 IsFilled s = (k : Kept) → Tells s k → is_empty k ≡ false
 
--- the store keeps what it kept, and its count did not fall
+-- the store tells that it keeps what it kept, and its count did not fall
 pub record IsSame (old new : Told) : Type 0 where
-  pub keeps : (k : Kept) → Tells old k → Keeps new k
+  pub keeps : (k : Kept) → Tells old k → Tells new k
   pub never_falls : RisesBy 0 old.faults new.faults
 
 -- an empty device was opened over the store
 pub record IsOver (s : Told) (d : VolumeView) : Type 0 where
   pub held : d.held ≡ s.held
+  pub tells_note : d.tells_note ≡ is_some s.noted
   pub bare : IsBare s
   pub round : d.round ≡ 0
   pub trash : d.trash ≡ []
   pub pull : d.pull ≡ []
   pub never_falls : s.faults ≤ d.faults
 
--- the store of a device was given back
+-- the store of a device was given back, with the round as its note
 pub record IsGiven (d : VolumeView) (s : Told) : Type 0 where
   pub held : s.held ≡ d.held
-  pub noted : IfSome s.noted (λ n. n ≡ d.round)
+  pub noted : s.noted ≡ note_of d
   pub faults : s.faults ≡ d.faults
 
 -- the first of some stores are bare
@@ -163,10 +152,10 @@ pub record IsNextRefused {S : Type 0} (told : S → Told) (device : ℕ) (status
 abbrev pub devices_in : ℕ → List ℕ → ℕ
 devices_in stores bytes = option_map_or (λ (b : Begun). length b.config.devices) (begun_of stores (cut bytes)) 0
 
--- A run of an input over stores that kept this: what it did, what the stores of the devices keep then, how it ended, and what was written. The sink held `before` and now holds `written`: where it tells, the text of what was done was appended, and where it doesn't, all else stands.
+-- A run of an input over stores that kept this: what it did, what the stores of the devices tell that they keep then, how it ended, and what was written. The sink held `before` and now holds `written`: where it tells, the text of what was done was appended, and where it doesn't, all else stands.
 pub record StoresRan (old new : List Told) (bytes : List ℕ) (before : Option (List ℕ)) (starts : List Kept) (status : Status) (unread : Option (List ℕ)) (written : Option (List ℕ)) : Type 0 where
   pub work : Work
-  pub keep : FirstKeep (devices_in (length old) bytes) new work.left
+  pub keep : FirstTell (devices_in (length old) bytes) new work.left
   pub written_is : Appends before written work.text
   pub ran : Ran starts bytes status unread (counts old) (counts new) work
 
