@@ -1,5 +1,6 @@
 use Rattle.std.proofs.Common.{rules}
 use Rattle.keep_history.proofs.Collisions.{told-collisions}
+use Rattle.keep_history.proofs.Finished.{told-finishes}
 use Rattle.keep_history.proofs.GetsOfPuts.{told-reads}
 use Rattle.keep_history.proofs.GoodTasks.{told-good-tasks}
 use Rattle.keep_run.proofs.Inputs.{whole-ran}
@@ -32,3 +33,9 @@ returns-then-not-is_run-clause-saves g c = told-saves _ _
 
 pub returns-clause-saves : goal.returns-clause-saves
 returns-clause-saves g c = told-saves _ _
+
+pub returns-then-not-is_run-clause-finished : goal.returns-then-not-is_run-clause-finished
+returns-then-not-is_run-clause-finished g c = told-finishes _ _
+
+pub returns-clause-finished : goal.returns-clause-finished
+returns-clause-finished g c = told-finishes _ _
