@@ -35,4 +35,3 @@ pub mod HeldDigests
 pub mod Reversed
 pub mod LiveDigests
 pub mod HeldNowhere
-mod EmptyDevices

@@ -1,7 +1,6 @@
 // Both machines of a configuration, over plain lists.
-ghost use Rattle.std.specs.Prelude.{◌≡◌, ◌<◌, IsTrue, IfOk, length, map};
+ghost use Rattle.std.specs.Prelude.{◌≡◌, IsTrue, IfOk, length};
 ghost use Rattle.keep_spec.specs.Times.{IsReading};
-ghost use Rattle.keep_event.specs.Device as machine;
 ghost use Rattle.keep_event.specs.Port.{MayAsk};
 ghost use Rattle.keep_event.specs.Table as tables;
 ghost use Rattle.keep_event.specs.World as worlds;
@@ -9,18 +8,18 @@ ghost use Rattle.keep_core.specs.WorldLines.{IsLine};
 
 use keep_collections::{Table, answer, rules_of};
 use keep_config::Config;
-use keep_event::{Answer, DeviceRules, Query};
-use keep_plain::PlainDevice;
-use keep_spec::{Device, NoMemory};
+use keep_event::{Answer, Query};
+use keep_plain::PlainDevices;
+use keep_spec::NoMemory;
 use std::alloc::Global;
 use std::marker::Model;
 
 /// The devices of a configuration and its table of collections as the machines have them, over plain lists: no store, no index, and no call that fails. It is seen as the configuration, the states of the devices by their numbers, and the table.
-/// A cluster over stores is compared with it.
+/// It is there to compare clusters over stores with.
 #[derive(Drop)]
 pub struct World<'a> {
     config: &'a Config,
-    devices: Vec<PlainDevice>,
+    devices: PlainDevices,
     table: Table,
     alloc: Global,
 }
@@ -32,9 +31,9 @@ impl<'a> Model for World<'a> {
 
     ghost Value = { worlds.World };
 
-    ghost view = { λ w. record { config = w.config.now; devices = w.devices.items; table = w.table.state } };
+    ghost view = { λ w. record { config = w.config.now; devices = w.devices; table = w.table.state } };
 
-    ghost invariant = { λ w. record { devices : length w.devices.items ≡ length w.config.now.devices; rules : w.table.rules ≡ requests.rules_of w.config.now } };
+    ghost invariant = { λ w. record { devices : length w.devices ≡ length w.config.now.devices; rules : w.table.rules ≡ requests.rules_of w.config.now } };
 }
 
 impl<'a> World<'a> {
@@ -44,14 +43,14 @@ impl<'a> World<'a> {
     {
         Ok(World {
             config,
-            devices: empty_devices(alloc, config.devices.as_slice())?,
+            devices: PlainDevices::new(alloc, config.devices.as_slice())?,
             table: Table::new(alloc, rules_of(config)),
             alloc,
         })
     }
 
     /// Asks a device or the table at a reading of the clock, in nanoseconds since 1970, and returns its answer, which is never StoreFault.
-    /// What may be asked is what a port may be asked: a device of the configuration, from which time on a collection is in the trash is a reading, and the limit of a scan isn't 0. NoMemory is the only error, and leaves the world as it was.
+    /// What may be asked is what a port may be asked: the device is one of the configuration, the time from which a SetTrash puts a collection into the trash is a reading, and the limit of a Scan isn't 0. NoMemory is the only error, and leaves the world as it was.
     pub fn step(&mut self, reading: u64, query: &Query) -> Result<Answer, NoMemory>
         requires room { IsTrue (tables.has_room self.old.table) }
         requires reading { IsReading reading }
@@ -60,9 +59,8 @@ impl<'a> World<'a> {
     {
         match query {
             Query::Device(device, query) => {
-                let rules = device_rules(self.config, *device);
-                let asked = &mut self.devices[*device as usize];
-                Ok(Answer::Device(asked.step(rules, reading, query)?))
+                let answer = self.devices.step(self.config, *device, reading, query)?;
+                Ok(Answer::Device(answer))
             }
             Query::Table(query) => Ok(Answer::Table(answer(
                 self.alloc,
@@ -79,33 +77,5 @@ impl<'a> World<'a> {
         ensures { result ≡ tables.has_room self.now.table }
     {
         self.table.has_room()
-    }
-}
-
-// A device that holds nothing for each of these.
-fn empty_devices(alloc: Global, devices: &[Device]) -> Result<Vec<PlainDevice>, NoMemory>
-    ensures { IfOk result (λ v. v.items ≡ map (λ d. machine.initial) devices.now) }
-{
-    let mut empty = Vec::with_capacity(alloc, devices.len())?;
-    for _ in devices {
-        if empty.push(PlainDevice::new(alloc)).is_err() {
-            return Err(NoMemory);
-        }
-    }
-    Ok(empty)
-}
-
-// What the configuration says of a device, by its number.
-fn device_rules(config: &Config, device: u32) -> DeviceRules
-    requires { device < length config.now.devices }
-    ensures { result ≡ worlds.device_rules config.now device }
-{
-    let device = config.device(device);
-    DeviceRules {
-        capacity: device.capacity,
-        read_only: device.read_only,
-        ttl: config.ttl,
-        skew: config.skew,
-        trash_life: config.trash_life,
     }
 }

@@ -2,7 +2,9 @@
 #![tactic(auto)]
 
 mod device;
+mod devices;
 mod held;
 mod walks;
 
 pub use device::PlainDevice;
+pub use devices::PlainDevices;

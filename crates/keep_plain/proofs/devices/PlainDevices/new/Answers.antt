@@ -1,7 +1,7 @@
 use Rattle.std.proofs.Common.{rules, ◌≡◌, ◌++◌, ◌∷◌, [], ◌∙◌, ap}
 use Rattle.keep_event.specs.Device.{initial}
-use Rattle.keep_core.proofs.EmptyDevices.{one-more}
-use Rattle.keep_core.proofs.world.empty_devices.Goals as goal
+use Rattle.keep_plain.proofs.Lists.{one-more}
+use Rattle.keep_plain.proofs.devices.PlainDevices.new.Goals as goal
 
 pub loop-preserved : goal.loop-preserved
 loop-preserved c =
