@@ -118,7 +118,7 @@ fn after_query(
     }
     let reading = number_at(&words, 0).min(READING_MAX);
     match query_of(alloc, &words)? {
-        Some(query) => answer_event(alloc, &volume.step(reading, &query)?, answer)?,
+        Some(query) => answer_event(alloc, 0, &volume.step(reading, &query)?, answer)?,
         None => answer.value(b"no query"),
     }
     Ok(Stand::Open(volume))
@@ -148,8 +148,8 @@ pub fn digest_of(alloc: Global, word: &str) -> Result<Option<Digest>, OutOfMemor
     Ok(block_of(alloc, word)?.map(|block| block.digest()))
 }
 
-// The query of a line, after its reading.
-fn query_of(alloc: Global, words: &[&str]) -> Result<Option<DeviceQuery>, OutOfMemory> {
+/// The query of a line, after its reading.
+pub fn query_of(alloc: Global, words: &[&str]) -> Result<Option<DeviceQuery>, OutOfMemory> {
     match word_at(words, 1) {
         "clear" => Ok(Some(DeviceQuery::Clear {
             round: number_at(words, 2),
@@ -229,14 +229,15 @@ fn sources_of(alloc: Global, word: &str) -> Result<Vec<u32>, OutOfMemory> {
     Ok(sources)
 }
 
-// The printed line of an event, and what it leaves out.
-fn answer_event(
+/// The printed line of an event of a device, and what it leaves out.
+pub fn answer_event(
     alloc: Global,
+    device: u32,
     reply: &DeviceAnswer,
     answer: &mut Answer,
 ) -> Result<(), OutOfMemory> {
     let mut line = Vec::new(alloc);
-    push_event_line(&mut line, b"q", 0, reply)?;
+    push_event_line(&mut line, b"q", device, reply)?;
     answer.output(&line);
     match reply {
         DeviceAnswer::Block { bytes } => {

@@ -9,6 +9,7 @@ mod safety;
 mod subjects;
 mod tables;
 mod tasks;
+mod worlds;
 
 use crate::subjects::Cases;
 use keep_casebook::run_cases;

@@ -1,5 +1,5 @@
 // The subjects: which module answers the cases of a file.
-use crate::{devices, plans, safety, tables, tasks};
+use crate::{devices, plans, safety, tables, tasks, worlds};
 use keep_casebook::{Answer, Case, Subjects};
 use std::alloc::Global;
 
@@ -15,6 +15,7 @@ impl Subjects for Cases {
             "safety" => safety::answer(alloc, case, answer),
             "tables" => tables::answer(alloc, case, answer),
             "tasks" => tasks::answer(alloc, case, answer),
+            "worlds" => worlds::answer(alloc, case, answer),
             _ => return false,
         }
         true

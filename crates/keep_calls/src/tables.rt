@@ -189,8 +189,8 @@ fn query_about(
     }
 }
 
-// The printed line of an event, and what it leaves out.
-fn answer_event(alloc: Global, reply: &TableAnswer, answer: &mut Answer) {
+/// The printed line of an event of the table, and what it leaves out.
+pub fn answer_event(alloc: Global, reply: &TableAnswer, answer: &mut Answer) {
     let mut line = Vec::new(alloc);
     if push_table_event_line(&mut line, b"q", reply).is_err() {
         return answer.cut();
