@@ -56,6 +56,7 @@ impl<'a> World<'a> {
         requires reading { IsReading reading }
         requires asked { MayAsk (length self.old.config.devices) query.now }
         ensures line { IsLine (worlds.line reading query.now self.old) self.old self.new result }
+        ensures config { self.new.config ≡ self.old.config }
     {
         match query {
             Query::Device(device, query) => {
