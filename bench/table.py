@@ -5,14 +5,17 @@
     bench/table.py PROGRAM versions
 
 PROGRAM is the built `keep_bench`. `keep_bench table` makes so many collections (1,000, 10,000 and so on up to COLLECTIONS,
-1,000,000 where none is said), updates, reads, trashes and restores each once, in a scattered order, asks what is wanted of each
-one's digest, and sweeps twice: once all superseded versions, and once all collections. The same statements run by Python's
-sqlite3 on a database in memory, with an index for each look-up, in one transaction. The median of three runs counts, of five
-below 100,000. What is printed is microseconds a call, a sweep's for each that went; each ratio is of the same run.
+1,000,000 where none is said), updates each once, reads it, reads a version of it by its number, trashes and restores it, in a
+scattered order, asks what is wanted of each one's digest, and sweeps twice: once all superseded versions, and once all
+collections. The same statements run by Python's sqlite3 on a database in memory, with an index for each look-up, in one
+transaction. The median of five runs counts, of three at 100,000; there is one run at 1,000,000. What is printed is microseconds
+a call, a sweep's for each that went; each ratio is of the same run. The last lines say how many times as dear a call has become
+from the least size to the greatest, ours and SQLite's, beside the height of a tree: a logarithm of both sizes.
 
 `keep_bench versions` gives one collection 10, 1,000 and 100,000 versions and times 1,000 updates more: of a collection whose
 versions are preserved, and of one whose versions are kept and not yet due. It reads the newest preserved version, and times one
 update that drops all that were kept, for each that goes."""
+import math
 import sqlite3
 import statistics
 import struct
@@ -27,7 +30,7 @@ LATER = 1800000000000000000
 FOREVER = 2 ** 63 - 1
 GRACE = (1209600 + 2 * 5) * 10 ** 9
 TEXT = b". 00000000000000000000000000000000+3 0:3:foo\n"
-NAMES = ["save", "update", "read", "wanted", "trash", "restore", "sweep-versions", "trash-again", "sweep-collections"]
+NAMES = ["save", "update", "read", "read-version", "wanted", "trash", "restore", "sweep-versions", "trash-again", "sweep-collections"]
 MASK = 2 ** 64 - 1
 
 
@@ -91,6 +94,13 @@ class Base:
             "SELECT version, want, text, trash_at FROM records JOIN collections ON number = collection WHERE collection = ? AND until IS NULL", (number,)
         ).fetchone()
 
+    def read_version(self, number, version=2):
+        row = self.base.execute(
+            "SELECT version, want, text, trash_at FROM records JOIN collections ON number = collection"
+            " WHERE collection = ? AND version = ? AND (until IS NULL OR until = ?)", (number, version, FOREVER)
+        ).fetchone()
+        assert row is not None
+
     def wanted(self, number):
         want, = self.base.execute("SELECT max(want) FROM named WHERE digest = ?", (digest_of(number),)).fetchone()
         assert want == 2
@@ -122,7 +132,7 @@ def theirs(count):
         elif name.startswith("sweep"):
             getattr(base, name.replace("-", "_"))()
         else:
-            call = getattr(base, name.split("-")[0])
+            call = getattr(base, name.removesuffix("-again").replace("-", "_"))
             for index in range(count):
                 call(index * STRIDE % count + 1)
         figures[name] = (time.monotonic() - start) * 10 ** 6 / count
@@ -147,7 +157,7 @@ def theirs_of_versions(count):
         start = time.monotonic()
         if name == "preserved":
             for _ in range(UPDATES):
-                base.base.execute("SELECT version, want, text FROM records WHERE collection = 1 AND version = ? AND (until IS NULL OR until = ?)", (count, FOREVER)).fetchone()
+                base.read_version(1, count)
             figures["read-version"] = (time.monotonic() - start) * 10 ** 6 / UPDATES
         else:
             base.update(1, FOREVER, LATER + GRACE, LATER)
@@ -169,15 +179,21 @@ def main():
         time_versions(sys.argv[1])
         return
     program, most = sys.argv[1], int(sys.argv[2]) if len(sys.argv) > 2 else 1000000
-    count = 1000
+    least, count, figures = 1000, 1000, {}
     while count <= most:
-        runs = [(ours(program, "table", count), theirs(count)) for _ in range(3 if count >= 100000 else 5)]
+        runs = [(ours(program, "table", count), theirs(count)) for _ in range(5 if count < 100000 else 3 if count < 1000000 else 1)]
         for name in NAMES:
             if name != "trash-again":
                 mine, other = (statistics.median(run[side][name] for run in runs) for side in (0, 1))
                 ratio = statistics.median(run[0][name] / run[1][name] for run in runs)
+                figures[count, name] = mine, other
                 print("%8d %-18s %8.2f us, sqlite3 %8.2f us: %.2f times" % (count, name, mine, other, ratio), flush=True)
         count *= 10
+    count //= 10
+    for name in NAMES if count > least else ():
+        if name != "trash-again":
+            mine, other = (figures[count, name][side] / max(figures[least, name][side], 0.001) for side in (0, 1))
+            print("%8d %-18s %8.2f times as dear as at %d, sqlite3 %.2f times, a logarithm %.2f times" % (count, name, mine, least, other, math.log(count) / math.log(least)))
 
 
 if __name__ == "__main__":

@@ -40,6 +40,7 @@ enum Kind {
     Save,
     Update,
     Read,
+    ReadVersion,
     Wanted,
     Trash,
     Restore,
@@ -81,6 +82,11 @@ fn is_done(alloc: Global, table: &mut Table, kind: Kind, number: u64) -> bool {
         Kind::Save | Kind::Update => is_stored(alloc, table, kind, number),
         Kind::Read => matches!(
             table.read(READING, TOKEN, number, None),
+            Ok(TableAnswer::Row { .. })
+        ),
+        // the second version is the current one
+        Kind::ReadVersion => matches!(
+            table.read(READING, TOKEN, number, Some(2)),
             Ok(TableAnswer::Row { .. })
         ),
         Kind::Wanted => table.wanted(&digest_of(number)) == 2,
@@ -177,6 +183,7 @@ pub fn time_table(rt: &HostRuntime, input: &[u8]) -> Result<()> {
     time_calls(rt, &mut table, "save", Kind::Save, count)?;
     time_calls(rt, &mut table, "update", Kind::Update, count)?;
     time_calls(rt, &mut table, "read", Kind::Read, count)?;
+    time_calls(rt, &mut table, "read-version", Kind::ReadVersion, count)?;
     time_calls(rt, &mut table, "wanted", Kind::Wanted, count)?;
     time_calls(rt, &mut table, "trash", Kind::Trash, count)?;
     time_calls(rt, &mut table, "restore", Kind::Restore, count)?;
