@@ -1,15 +1,14 @@
 -- What was found in what is pending is what comes next of the known bytes.
-use Rattle.std.proofs.Common.{◌≡◌, ◌≢◌, inl, inr, ℕ, zero, suc, ◌+◌, ◌<◌, ◌≤◌, List, [], ◌∷◌, ◌++◌, length, take, drop, get_or, Option, None, Some, Ok, Err, refl, sym, ◌∙◌, ap, arith}
+use Rattle.std.proofs.Common.{◌≡◌, ◌≢◌, inl, inr, ℕ, zero, suc, ◌+◌, ◌<◌, ◌≤◌, List, [], ◌∷◌, ◌++◌, length, take, drop, get_or, Option, None, Some, Ok, Err, refl, sym, ◌∙◌, ap, subst, arith}
 use Rattle.std.proofs.lemmas.List.{append-nil, take_all, drop_all, length-take-le}
 use Rattle.std.proofs.lemmas.Bool.Decides.{nat_tests}
 use Rattle.std.specs.Io.KnownBytes.{Keeps, prepend_known}
 use Rattle.keep_spec.specs.Lines.{cut, text_of, Verdict, fits, line_too_long, input_too_long, verdict_of}
 use Rattle.keep_base.specs.declared.lines.Stop.{Stop}
 use Rattle.keep_base.specs.declared.lines.Stop.TheVariants.{ReadFault, LineTooLong, InputTooLong, NoMemory}
-use Rattle.keep_base.specs.declared.lines.Found as F
 use Rattle.keep_base.specs.declared.lines.LineError.TheVariants as E
 use Rattle.keep_base.specs.declared.lines.TheConstants.{LINE_MAX, INPUT_MAX}
-use Rattle.keep_base.specs.Ends.{IsPlain, Ends, IsRefused, IsFound, SameBytes, error_of_stop}
+use Rattle.keep_base.specs.Ends.{IsPlain, Ends, IsRefused, IsFound, error_of_stop}
 use Rattle.keep_base.specs.Lines.{IsNext, IsNextJudged}
 use Rattle.keep_base.proofs.Cut.{cut-newline, text_of-newline, cut-plain, text_of-plain, cut-begins}
 
@@ -129,8 +128,23 @@ next_memory : (taken number after : ℕ) (known after_left : Option (List ℕ)) 
 next_memory taken number after None after_left lent = tt
 next_memory taken number after (Some bytes) after_left lent = tt
 
-pub next_stopped : (taken number after : ℕ) (old lent : List ℕ) (old_left left after_left : Option (List ℕ)) (pending : List ℕ) (stop : Stop) → taken ≤ INPUT_MAX → SameBytes {T = Option F.Found} (Err stop) old old_left pending left → IsFound taken (Err stop) pending left → IsNext taken number (prepend_known old old_left) (Err (error_of_stop stop (number + 1))) lent after after_left
+pub next_stopped : (taken number after : ℕ) (old lent : List ℕ) (old_left left after_left : Option (List ℕ)) (pending : List ℕ) (stop : Stop) → taken ≤ INPUT_MAX → Keeps (prepend_known old old_left) (prepend_known pending left) → IsFound taken (Err stop) pending left → IsNext taken number (prepend_known old old_left) (Err (error_of_stop stop (number + 1))) lent after after_left
 next_stopped taken number after old lent old_left left after_left pending ReadFault le k f = next_fault taken number after (prepend_known old old_left) after_left lent
 next_stopped taken number after old lent old_left left after_left pending LineTooLong le k f = next_refused-line taken number after (prepend_known old old_left) left after_left lent pending le k f
 next_stopped taken number after old lent old_left left after_left pending InputTooLong le k f = next_refused-input taken number after (prepend_known old old_left) left after_left lent pending le k f
 next_stopped taken number after old lent old_left left after_left pending NoMemory le k f = next_memory taken number after (prepend_known old old_left) after_left lent
+
+-- what was read ahead tells of a refusal, whatever the source tells
+pub line_refused : (taken number n : ℕ) (left : Option (List ℕ)) (pending : List ℕ) (stop : Stop) → taken ≤ INPUT_MAX → error_of_stop stop (number + 1) ≡ E.LineTooLong n → IsFound taken (Err stop) pending left → (n ≡ number + 1) × IsNextJudged taken pending line_too_long
+line_refused taken number n left pending ReadFault le e f = cc
+line_refused taken number n left pending LineTooLong le e f =
+    (cc, subst (λ (v : List ℕ). IsNextJudged taken v line_too_long) (append-nil pending) (refused taken line_too_long pending [] (λ e. cc) le (line-longer taken) f))
+line_refused taken number n left pending InputTooLong le e f = cc
+line_refused taken number n left pending NoMemory le e f = cc
+
+pub input_refused : (taken n : ℕ) (left : Option (List ℕ)) (pending : List ℕ) (stop : Stop) → taken ≤ INPUT_MAX → error_of_stop stop n ≡ E.InputTooLong → IsFound taken (Err stop) pending left → IsNextJudged taken pending input_too_long
+input_refused taken n left pending ReadFault le e f = cc
+input_refused taken n left pending LineTooLong le e f = cc
+input_refused taken n left pending InputTooLong le e f =
+    subst (λ (v : List ℕ). IsNextJudged taken v input_too_long) (append-nil pending) (refused taken input_too_long pending [] (λ e. cc) le (input-longer taken) f)
+input_refused taken n left pending NoMemory le e f = cc

@@ -1,7 +1,8 @@
 -- What a reader of lines has done and has left, and what comes next. Bounds are those of keep_base/src/lines.
-use Rattle.std.specs.Prelude.{◌≡◌, ℕ, ◌+◌, List, [], ◌∷◌, length, take, drop, Option, None, Some, Result, Ok, Err, ⊤}
+use Rattle.std.specs.Prelude.{◌≡◌, ℕ, Bool, ◌+◌, List, [], ◌∷◌, length, take, drop, Option, None, Some, Result, Ok, Err, ⊤}
 use Rattle.std.specs.Io.KnownBytes.{prepend_known, IsAtEnd, Keeps}
 use Rattle.keep_spec.specs.Lines.{cut, text_of, newlines, Verdict, fits, line_too_long, input_too_long, verdict_of}
+use Rattle.keep_base.specs.Ends.{failure_of, is_end}
 use Rattle.keep_base.specs.declared.lines.Lines.{Lines}
 use Rattle.keep_base.specs.declared.stream.Source.{Ghosts}
 use Rattle.keep_base.specs.declared.lines.LineError.{LineError}
@@ -18,7 +19,11 @@ lines_text lines = take lines.text_len (drop lines.text_start lines.pending.item
 
 -- the error that every call returns from now on
 abbrev pub lines_failed : {R : Type 0} {G : Ghosts R} → Lines R G → Option LineError
-lines_failed lines = lines.failed
+lines_failed lines = failure_of lines.state
+
+-- whether the end was found: every call returns it from now on
+abbrev pub lines_ended : {R : Type 0} {G : Ghosts R} → Lines R G → Bool
+lines_ended lines = is_end lines.state
 
 -- how many bytes and how many lines were returned
 abbrev pub lines_taken : {R : Type 0} {G : Ghosts R} → Lines R G → ℕ
@@ -38,10 +43,28 @@ lines_name lines = lines.source.ghost_name
 abbrev pub lines_ahead : {R : Type 0} {G : Ghosts R} → Lines R G → List ℕ
 lines_ahead lines = drop lines.start lines.pending.items
 
--- the source failed: no byte is lost, and no line stands whole in what was read of it and not returned
+-- the source failed: no byte is lost, and in what was read of it and not returned no line stands whole, nor the beginning of one that is refused
 pub record IsInterrupted {R : Type 0} {G : Ghosts R} (old new : Lines R G) : Type 0 where
   pub left_stays : Keeps (lines_left old) (lines_left new)
   pub no_newline : newlines (lines_ahead new) ≡ 0
+  pub fits_so_far : verdict_of LINE_MAX INPUT_MAX (lines_taken old) (length (lines_ahead new)) (length (lines_ahead new)) ≡ fits
+
+-- an error was returned: no byte is lost, nothing is lent, and no byte or line was counted
+pub record IsStopped {R : Type 0} {G : Ghosts R} (old new : Lines R G) : Type 0 where
+  pub left_stays : Keeps (lines_left old) (lines_left new)
+  pub no_text : lines_text new ≡ []
+  pub taken_stays : lines_taken new ≡ lines_taken old
+  pub number_stays : lines_number new ≡ lines_number old
+
+-- nothing was read, and no text is lent
+pub record Stays {R : Type 0} {G : Ghosts R} (old new : Lines R G) : Type 0 where
+  pub source_stays : lines_source new ≡ lines_source old
+  pub ahead_stays : lines_ahead new ≡ lines_ahead old
+  pub no_text : lines_text new ≡ []
+  pub taken_stays : lines_taken new ≡ lines_taken old
+  pub number_stays : lines_number new ≡ lines_number old
+  pub failed_stays : lines_failed new ≡ lines_failed old
+  pub ended_stays : lines_ended new ≡ lines_ended old
 
 -- the input has ended: nothing is read ahead or lent, nothing is left of the source, and no byte or line was counted
 pub record IsEnd {R : Type 0} {G : Ghosts R} (old new : Lines R G) : Type 0 where

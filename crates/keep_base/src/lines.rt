@@ -1,9 +1,10 @@
 // Reading a source line by line.
-ghost use Rattle.std.specs.Prelude.{◌≡◌, ◌≤◌, ◌<◌, ◌+◌, ℕ, List, Option, None, Some, OnOk, OnErr, IfOk, IfErr, IfSome, IsErrOf, length, vec_len, take, drop, [], Err};
-ghost use Rattle.std.specs.Io.KnownBytes.{prepend_known};
+ghost use Rattle.std.specs.Prelude.{◌≡◌, ◌≤◌, ◌<◌, ◌+◌, ◌++◌, ◌↔◌, ℕ, List, Option, None, Some, OnOk, OnErr, IfOk, IfErr, IfSome, IsErrOf, length, vec_len, take, drop, [], Err, true, false};
+ghost use Rattle.std.specs.Io.KnownBytes.{prepend_known, Keeps};
+ghost use Rattle.std.specs.Vec.{vec_capacity};
 ghost use Rattle.keep_spec.specs.Causes.{Rose};
-ghost use Rattle.keep_spec.specs.Lines.{verdict_of};
-ghost use Rattle.keep_base.specs.Ends.{IsNewlineFrom, IsJudged, IsFound, SameBytes, error_of_stop};
+ghost use Rattle.keep_spec.specs.Lines.{verdict_of, newlines, line_too_long, input_too_long};
+ghost use Rattle.keep_base.specs.Ends.{IsNewlineFrom, IsJudged, IsFound, HasEnded, error_of_stop};
 
 use crate::Source;
 use std::alloc::Global;
@@ -17,7 +18,7 @@ pub const INPUT_MAX: u64 = 1073741824;
 // How many bytes the source is asked for at a time.
 const CHUNK: usize = 16384;
 
-/// Why a line can't be read. Each later call returns the same error.
+/// Why a line can't be read. Each later call returns the same error, and reads nothing.
 #[derive(Clone, Copy, Debug, PartialEq, Eq)]
 pub enum LineError {
     /// The source failed, and counted the fault.
@@ -46,6 +47,14 @@ pub(crate) enum Stop {
     NoMemory,
 }
 
+// Whether lines are read on. Else each call of `next` returns what the last one did, and reads nothing.
+#[derive(Clone, Copy)]
+enum State {
+    Reading,
+    Ended,
+    Failed(LineError),
+}
+
 /// Reads a source line by line, and lends each line until the next one is read. A last line without a newline counts.
 #[derive(Drop)]
 pub struct Lines<'a, R: Source> {
@@ -57,11 +66,12 @@ pub struct Lines<'a, R: Source> {
     text_len: usize,
     taken: u64,
     number: u64,
-    failed: Option<LineError>,
+    state: State,
     ghost in_range: { taken ≤ 1073741824 },
     ghost numbered: { number ≤ taken },
     ghost within: { start ≤ vec_len pending },
     ghost text_within: { text_start + text_len ≤ vec_len pending },
+    ghost ended: { HasEnded state (drop start pending.items) (R.left source.now) },
 }
 
 // The index of the first newline at or after `from`.
@@ -91,11 +101,22 @@ fn judge(taken: u64, text: usize, piece: usize) -> Result<(), Stop>
     Ok(())
 }
 
-// Reads until the first line of what is pending ends.
+// Appends bytes for which there is room.
+fn append(pending: &mut Vec<u8>, bytes: &[u8])
+    requires { vec_len pending.old + length bytes.now ≤ vec_capacity pending.old }
+    ensures items { pending.new.items ≡ pending.old.items ++ bytes.now }
+    ensures len { vec_len pending.new ≡ vec_len pending.old + length bytes.now }
+{
+    let Ok(()) = pending.extend_from_slice(bytes) else {
+        unreachable!()
+    };
+}
+
+// Reads until the first line of what is pending ends. Takes the memory of a read before it, so that no byte is lost where memory is refused.
 fn fill<R: Source>(source: &mut R, pending: &mut Vec<u8>, taken: u64) -> Result<Option<Found>, Stop>
     requires { taken ≤ INPUT_MAX }
     ensures found { IsFound taken result pending.new.items (R.left source.new) }
-    ensures bytes { SameBytes result pending.old.items (R.left source.old) pending.new.items (R.left source.new) }
+    ensures bytes { Keeps (prepend_known pending.old.items (R.left source.old)) (prepend_known pending.new.items (R.left source.new)) }
     ensures never_falls { R.faults source.old ≤ R.faults source.new }
     ensures cause { IsErrOf result Stop.ReadFault → Rose (R.faults source.old) (R.faults source.new) }
 {
@@ -110,6 +131,9 @@ fn fill<R: Source>(source: &mut R, pending: &mut Vec<u8>, taken: u64) -> Result<
         }
         scanned = pending.len();
         judge(taken, scanned, scanned)?;
+        if pending.reserve(CHUNK).is_err() {
+            return Err(Stop::NoMemory);
+        }
         let mut chunk = [0; CHUNK];
         let count = match source.read(&mut chunk) {
             Ok(count) => count,
@@ -125,9 +149,7 @@ fn fill<R: Source>(source: &mut R, pending: &mut Vec<u8>, taken: u64) -> Result<
                 })
             });
         }
-        if pending.extend_from_slice(&chunk[..count]).is_err() {
-            return Err(Stop::NoMemory);
-        }
+        append(pending, &chunk[..count]);
     }
 }
 
@@ -152,7 +174,8 @@ fn find<R: Source>(
     requires within { start.old ≤ vec_len pending.old }
     ensures within { start.new ≤ vec_len pending.new }
     ensures found { IsFound taken result (drop start.new pending.new.items) (R.left source.new) }
-    ensures bytes { SameBytes result (drop start.old pending.old.items) (R.left source.old) (drop start.new pending.new.items) (R.left source.new) }
+    ensures bytes { Keeps (prepend_known (drop start.old pending.old.items) (R.left source.old)) (prepend_known (drop start.new pending.new.items) (R.left source.new)) }
+    ensures memory { IsErrOf result Stop.NoMemory → newlines (drop start.old pending.old.items) ≡ 0 }
     ensures never_falls { R.faults source.old ≤ R.faults source.new }
     ensures cause { IsErrOf result Stop.ReadFault → Rose (R.faults source.old) (R.faults source.new) }
 {
@@ -169,13 +192,15 @@ fn find<R: Source>(
 }
 
 impl<'a, R: Source> Lines<'a, R> {
-    ghost use Rattle.keep_base.specs.Lines.{lines_left, lines_text, lines_failed, lines_taken, lines_number, lines_source, lines_name, IsNext, IsEnd, IsInterrupted};
+    ghost use Rattle.keep_base.specs.Lines.{lines_left, lines_text, lines_failed, lines_ended, lines_ahead, lines_taken, lines_number, lines_source, lines_name, IsNext, IsEnd, IsInterrupted, IsStopped, IsNextJudged, Stays};
 
     /// A reader of what the source has left. It reads nothing yet, and takes no memory.
     pub fn new(alloc: Global, source: &'a mut R) -> Lines<'a, R>
         ensures same_reference { lines_name result ≡ source.entry.ghost_name }
         ensures same_source { lines_source result ≡ source.old }
         ensures left { lines_left result ≡ prepend_known [] (R.left source.old) }
+        ensures nothing_ahead { lines_ahead result ≡ [] }
+        ensures not_ended { lines_ended result ≡ false }
         ensures starts_at_zero { (lines_taken result ≡ 0) × (lines_number result ≡ 0) × (lines_failed result ≡ None) }
         ensures no_text { lines_text result ≡ [] }
     {
@@ -187,7 +212,7 @@ impl<'a, R: Source> Lines<'a, R> {
             text_len: 0,
             taken: 0,
             number: 0,
-            failed: None,
+            state: State::Reading,
         }
     }
 
@@ -200,32 +225,44 @@ impl<'a, R: Source> Lines<'a, R> {
         source
     }
 
-    /// Reads the next line and returns its number, counted from 1; `text` lends the line. Returns `None` at the end of the input: then the source has nothing left, nothing is read ahead, and no later call returns a line.
-    /// After an error each call returns the same error. `ReadFault` comes where the source failed: each line that stood whole in what it gave before was returned, and no byte of it is lost.
-    /// Memory is wanted only for what is read ahead, so `NoMemory` comes only where the line doesn't stand whole in it. At the end and after an error `text` lends nothing.
+    /// Reads the next line and returns its number, counted from 1; `text` lends the line. Returns `None` at the end of the input: then the source has nothing left and nothing is read ahead.
+    /// After `None` and after an error each call returns the same, and reads nothing, also where the source would go on. Then `text` lends nothing.
+    /// An error loses no byte, and counts no byte and no line. `ReadFault` comes where the source failed: each line that stood whole in what it gave before was returned, and what is read ahead is within the bounds.
+    /// Memory is wanted only before a read, so `NoMemory` comes only where the line doesn't stand whole in what was read ahead.
     pub fn next(&mut self) -> Result<Option<u64>, LineError>
         ensures same_reference { lines_name self.new ≡ lines_name self.old }
         ensures next_line { (lines_failed self.old) ≡ None →
             IsNext (lines_taken self.old) (lines_number self.old) (lines_left self.old) result (lines_text self.new) (lines_taken self.new) (lines_left self.new) }
         ensures ended { result ≡ Ok None → IsEnd self.old self.new }
+        ensures remembers_end { (result ≡ Ok None) ↔ (lines_ended self.new ≡ true) }
+        ensures same_end { lines_ended self.old ≡ true → (result ≡ Ok None) × Stays self.old self.new }
         ensures interrupted { result ≡ Err LineError.ReadFault → (lines_failed self.old) ≡ None → IsInterrupted self.old self.new }
+        ensures memory { result ≡ Err LineError.NoMemory → (lines_failed self.old) ≡ None → IsInterrupted self.old self.new × (newlines (lines_ahead self.old) ≡ 0) }
+        ensures line_too_long { (n : ℕ) → result ≡ Err (LineError.LineTooLong n) → (lines_failed self.old) ≡ None → (n ≡ lines_number self.old + 1) × IsNextJudged (lines_taken self.old) (lines_ahead self.new) line_too_long }
+        ensures input_too_long { result ≡ Err LineError.InputTooLong → (lines_failed self.old) ≡ None → IsNextJudged (lines_taken self.old) (lines_ahead self.new) input_too_long }
+        ensures stopped { OnErr result (IsStopped self.old self.new) }
         ensures number { IfOk result (λ o. IfSome o (λ n. (n ≡ lines_number self.new) × (lines_number self.new ≡ lines_number self.old + 1))) }
         ensures advances { IfOk result (λ o. IfSome o (λ _. (lines_taken self.old) < (lines_taken self.new))) }
         ensures unfailed { OnOk result ((lines_failed self.old ≡ None) × (lines_failed self.new ≡ None)) }
         ensures failed { IfErr result (λ e. (lines_failed self.new) ≡ Some e) }
         ensures no_text { OnErr result (lines_text self.new ≡ []) }
         ensures same_error { IfSome (lines_failed self.old) (λ e. result ≡ Err e) }
+        ensures error_stays { IfSome (lines_failed self.old) (λ _. Stays self.old self.new) }
         ensures never_falls { R.faults (lines_source self.old) ≤ R.faults (lines_source self.new) }
         ensures cause { result ≡ Err LineError.ReadFault → (lines_failed self.old) ≡ None → Rose (R.faults (lines_source self.old)) (R.faults (lines_source self.new)) }
     {
         self.text_start = 0;
         self.text_len = 0;
-        if let Some(error) = self.failed {
-            return Err(error);
+        match self.state {
+            State::Reading => {}
+            State::Ended => return Ok(None),
+            State::Failed(error) => return Err(error),
         }
         let result = self.advance();
-        if let Err(error) = result {
-            self.failed = Some(error);
+        match result {
+            Ok(Some(_)) => {}
+            Ok(None) => self.state = State::Ended,
+            Err(error) => self.state = State::Failed(error),
         }
         result
     }
@@ -239,13 +276,18 @@ impl<'a, R: Source> Lines<'a, R> {
 
     fn advance(&mut self) -> Result<Option<u64>, LineError>
         requires no_text { (self.old.text_start ≡ 0) × (self.old.text_len ≡ 0) }
+        requires reading { self.old.state ≡ State.Reading }
         ensures same_reference { lines_name self.new ≡ lines_name self.old }
         ensures next_line { IsNext (lines_taken self.old) (lines_number self.old) (lines_left self.old) result (lines_text self.new) (lines_taken self.new) (lines_left self.new) }
         ensures ended { result ≡ Ok None → IsEnd self.old self.new }
         ensures interrupted { result ≡ Err LineError.ReadFault → IsInterrupted self.old self.new }
+        ensures memory { result ≡ Err LineError.NoMemory → IsInterrupted self.old self.new × (newlines (lines_ahead self.old) ≡ 0) }
+        ensures line_too_long { (n : ℕ) → result ≡ Err (LineError.LineTooLong n) → (n ≡ lines_number self.old + 1) × IsNextJudged (lines_taken self.old) (lines_ahead self.new) line_too_long }
+        ensures input_too_long { result ≡ Err LineError.InputTooLong → IsNextJudged (lines_taken self.old) (lines_ahead self.new) input_too_long }
+        ensures stopped { OnErr result (IsStopped self.old self.new) }
         ensures number { IfOk result (λ o. IfSome o (λ n. (n ≡ lines_number self.new) × (lines_number self.new ≡ lines_number self.old + 1))) }
         ensures advances { IfOk result (λ o. IfSome o (λ _. (lines_taken self.old) < (lines_taken self.new))) }
-        ensures failed { (lines_failed self.new) ≡ (lines_failed self.old) }
+        ensures reading { self.new.state ≡ State.Reading }
         ensures no_text { OnErr result (lines_text self.new ≡ []) }
         ensures never_falls { R.faults (lines_source self.old) ≤ R.faults (lines_source self.new) }
         ensures cause { result ≡ Err LineError.ReadFault → Rose (R.faults (lines_source self.old)) (R.faults (lines_source self.new)) }
