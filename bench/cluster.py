@@ -4,7 +4,8 @@
     bench/cluster.py PROGRAM
 
 PROGRAM is the built `keepd`. First so many gets are opened, then each is stepped, then each is finished, and the same with ten times as many:
-a growth with the square would show. Then an input of 2^30 bytes in lines of 2^20. Then the same number of puts goes to 1, 8 and 64 devices behind 1 and 8 servers, each server mounting its
+a growth with the square would show. Then an input of 2^30 bytes in lines of 2^20, and two inputs that pass the bounds: where a line passes its own bound at
+the same byte as the input, the line is refused, and where it does so one byte later, the input. Then the same number of puts goes to 1, 8 and 64 devices behind 1 and 8 servers, each server mounting its
 part of the devices, or all where there is one server. Beside each stands `md5sum` of the script itself, run over the same file, as a yardstick
 of the machine. Peak memory is the child's greatest resident set, as the kernel counts it for the child alone."""
 import json
@@ -64,18 +65,18 @@ LINE = 1048576
 INPUT = 1073741824
 
 
-def long_lines():
-    """Script lines of 1,048,576 bytes each, gets by a token that is unknown, and empty lines after them: 2^30 bytes with the newlines."""
+def long_lines(total):
+    """Script lines of 1,048,576 bytes each, gets by a token that is unknown, and empty lines after them: `total` bytes with the newlines."""
     first = config(1, 1)
     yield first
     taken = len(first) + 1
     number = 0
-    while taken + LINE + 1 <= INPUT:
+    while taken + LINE + 1 <= total:
         front = '{"open":"g%d","at":%d,"do":"get","server":0,"locator":"x","token":"' % (number, AT)
         yield front + "t" * (LINE - len(front) - 2) + '"}'
         taken += LINE + 1
         number += 1
-    for _ in range(INPUT - taken):
+    for _ in range(total - taken):
         yield ""
 
 
@@ -106,11 +107,37 @@ def measure(program, name, count, lines):
     )
 
 
+def refusal(program, taken):
+    """Exit and words of the program after lines of `taken` bytes in all and a line of one byte too many, and that line's number."""
+    with tempfile.TemporaryDirectory() as folder:
+        path = os.path.join(folder, "script")
+        number = 1
+        with open(path, "w") as script:
+            for line in long_lines(taken):
+                script.write(line + "\n")
+                number += 1
+            assert script.tell() == taken, (script.tell(), taken)
+            script.write("x" * (LINE + 1) + "\n")
+        with open(path, "rb") as source:
+            ended = subprocess.run([program, "run"], stdin=source, stdout=subprocess.DEVNULL, stderr=subprocess.PIPE, check=False)
+    return ended.returncode, ended.stderr.decode(), number
+
+
+def check_bounds(program):
+    """The line is refused where its first byte too many is the input's first byte too many; one byte later in the input, the input is."""
+    status, words, number = refusal(program, INPUT - LINE)
+    assert (status, words) == (8, "keepd: line too long: %d\n" % number), (status, words, number)
+    status, words, number = refusal(program, INPUT - LINE + 1)
+    assert (status, words) == (9, "keepd: input too long\n"), (status, words, number)
+    print("bounds of a line and of the input at one byte: the line is refused, and one byte later the input")
+
+
 def main():
     program = sys.argv[1]
     for count in [10000, 100000]:
         measure(program, "open tasks", count, tasks(count))
-    measure(program, "lines of 2^20 bytes, 2^30 in all", INPUT // (LINE + 1), long_lines())
+    measure(program, "lines of 2^20 bytes, 2^30 in all", INPUT // (LINE + 1), long_lines(INPUT))
+    check_bounds(program)
     for devices, servers in [(1, 1), (8, 1), (8, 8), (64, 1), (64, 8)]:
         for count in [10000, 100000]:
             measure(program, "puts, %d devices, %d servers" % (devices, servers), count, puts(count, devices, servers))
