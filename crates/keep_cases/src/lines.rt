@@ -1,5 +1,6 @@
 // Lines and sinks of bytes. `lines`: the answer is each line of the input with its number, and how the lines end, which the call after that has to say again. Settings: `most` (the most
-// bytes of a read), `failing` (the read that fails), `reader` (by std's reader of a slice), `take` (after so many lines the rest of the source is told instead).
+// bytes of a read), `failing` (the read that fails), `ending` (the read that returns no byte though some are left), `reader` (by std's reader of a slice), `take`
+// (after so many lines, or where they end before, what is left of the source is told too).
 // `sinks`: the input is written to a sink; the answer is what it has taken, and whether all was. Settings: `most` (the most bytes of a call), `failing`,
 // `room` (std's writer to a slice of so many bytes).
 ghost use Rattle.std.specs.Prelude.{◌≤◌};
@@ -24,6 +25,7 @@ pub fn answer(alloc: Global, case: &Case, answer: &mut Answer) {
         cut: 0,
         most: most_of(case),
         failing: case.number("failing", 0),
+        ending: case.number("ending", 0),
         ends_failing: false,
         calls: 0,
         faults: 0,

@@ -11,6 +11,8 @@ pub struct Pieces<'a> {
     pub most: usize,
     /// The number of the read that fails; 0 for none.
     pub failing: u64,
+    /// The number of the read that returns no byte, as at the end, whatever is left; 0 for none.
+    pub ending: u64,
     /// Whether each read after the last byte fails.
     pub ends_failing: bool,
     pub calls: u64,
@@ -28,6 +30,9 @@ impl<'a> Source for Pieces<'a> {
         if fails && self.faults < u64::MAX {
             self.faults += 1;
             return Err(Failed);
+        }
+        if self.calls == self.ending {
+            return Ok(0);
         }
         let piece = if self.cut == 0 {
             self.bytes.len()

@@ -1,7 +1,7 @@
 // The subjects: which module answers the cases of a file.
 use crate::{
-    configurations, indexes, lines, lists, locators, manifests, names, orders, packs, printed, script,
-    signing, texts, wire, written,
+    configurations, indexes, lines, lists, locators, manifests, names, orders, packs, printed,
+    script, signing, texts, wire, written,
 };
 use keep_casebook::{Answer, Case, Subjects};
 use std::alloc::Global;

@@ -20,6 +20,7 @@ fn from_pieces<'a>(case: &'a Case, cut: usize, most: usize, ends_failing: bool) 
         cut,
         most,
         failing: case.number("failing", 0),
+        ending: 0,
         ends_failing,
         calls: 0,
         faults: 0,
