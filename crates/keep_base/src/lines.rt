@@ -1,10 +1,9 @@
 // Reading a source line by line.
 ghost use Rattle.std.specs.Prelude.{◌≡◌, ◌≤◌, ◌<◌, ◌+◌, ◌++◌, ◌↔◌, ℕ, List, Option, None, Some, OnOk, OnErr, IfOk, IfErr, IfSome, IsErrOf, length, vec_len, take, drop, [], Err, true, false};
 ghost use Rattle.std.specs.Io.KnownBytes.{prepend_known, Keeps};
-ghost use Rattle.std.specs.Vec.{vec_capacity};
 ghost use Rattle.keep_spec.specs.Causes.{Rose};
 ghost use Rattle.keep_spec.specs.Lines.{verdict_of, newlines, line_too_long, input_too_long};
-ghost use Rattle.keep_base.specs.Ends.{IsNewlineFrom, IsJudged, IsFound, HasEnded, error_of_stop};
+ghost use Rattle.keep_base.specs.Ends.{IsNewlineFrom, IsJudged, IsFound, IsReadOnto, HasEnded, error_of_stop};
 
 use crate::Source;
 use std::alloc::Global;
@@ -101,18 +100,31 @@ fn judge(taken: u64, text: usize, piece: usize) -> Result<(), Stop>
     Ok(())
 }
 
-// Appends bytes for which there is room.
-fn append(pending: &mut Vec<u8>, bytes: &[u8])
-    requires { vec_len pending.old + length bytes.now ≤ vec_capacity pending.old }
-    ensures items { pending.new.items ≡ pending.old.items ++ bytes.now }
-    ensures len { vec_len pending.new ≡ vec_len pending.old + length bytes.now }
+// Reads onto the end of what is pending, and returns how many bytes came: none at the end of the input. Takes the memory of a read before it, so that no byte
+// is lost where memory is refused.
+fn read_onto<R: Source>(source: &mut R, pending: &mut Vec<u8>) -> Result<usize, Stop>
+    requires { vec_len pending.old ≤ 1073741824 }
+    ensures read { IsReadOnto pending.old.items pending.new.items (R.left source.old) (R.left source.new) result }
+    ensures never_falls { R.faults source.old ≤ R.faults source.new }
+    ensures cause { IsErrOf result Stop.ReadFault → Rose (R.faults source.old) (R.faults source.new) }
 {
-    let Ok(()) = pending.extend_from_slice(bytes) else {
-        unreachable!()
-    };
+    let len = pending.len();
+    if pending.resize(len + CHUNK, 0).is_err() {
+        return Err(Stop::NoMemory);
+    }
+    match source.read(&mut pending[len..]) {
+        Ok(count) => {
+            pending.truncate(len + count);
+            Ok(count)
+        }
+        Err(_) => {
+            pending.truncate(len);
+            Err(Stop::ReadFault)
+        }
+    }
 }
 
-// Reads until the first line of what is pending ends. Takes the memory of a read before it, so that no byte is lost where memory is refused.
+// Reads until the first line of what is pending ends.
 fn fill<R: Source>(source: &mut R, pending: &mut Vec<u8>, taken: u64) -> Result<Option<Found>, Stop>
     requires { taken ≤ INPUT_MAX }
     ensures found { IsFound taken result pending.new.items (R.left source.new) }
@@ -131,14 +143,7 @@ fn fill<R: Source>(source: &mut R, pending: &mut Vec<u8>, taken: u64) -> Result<
         }
         scanned = pending.len();
         judge(taken, scanned, scanned)?;
-        if pending.reserve(CHUNK).is_err() {
-            return Err(Stop::NoMemory);
-        }
-        let mut chunk = [0; CHUNK];
-        let count = match source.read(&mut chunk) {
-            Ok(count) => count,
-            Err(_) => return Err(Stop::ReadFault),
-        };
+        let count = read_onto(source, pending)?;
         if count == 0 {
             return Ok(if scanned == 0 {
                 None
@@ -149,7 +154,6 @@ fn fill<R: Source>(source: &mut R, pending: &mut Vec<u8>, taken: u64) -> Result<
                 })
             });
         }
-        append(pending, &chunk[..count]);
     }
 }
 
