@@ -8,3 +8,4 @@ mod signed;
 pub use keep_event::{SaveRequest, TableAnswer, TableQuery};
 pub use keep_table::Table;
 pub use queries::{answer, rules_of, save, update};
+pub use request::{Verdict, judged};

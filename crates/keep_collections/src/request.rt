@@ -19,9 +19,9 @@ use keep_sign::unsigned_manifest;
 use keep_spec::{Bytes, Items, Manifest, NoMemory, Portable};
 use std::alloc::Global;
 
-/// What a save or an update makes of a request: the record to store, or the first refusal.
+/// What a save or an update makes of a request: the record to store, or the first refusal, which is BadManifest, Unsigned, WrongHash or BadWant.
 #[derive(Drop)]
-pub(crate) enum Verdict {
+pub enum Verdict {
     Good(NewRecord),
     Refused(TableAnswer),
 }
@@ -126,8 +126,8 @@ fn made_of(
     })
 }
 
-/// Tests a request at a reading (nanoseconds since 1970): its text, its signatures, the claimed hash and the wanted copies, in this order.
-pub(crate) fn judged(
+/// Tests a request at a reading (nanoseconds since 1970): its text, its signatures, the claimed hash and the wanted copies, in this order. Whether its token is known isn't tested. NoMemory is the only error.
+pub fn judged(
     alloc: Global,
     config: &Config,
     reading: u64,
