@@ -1,0 +1,2 @@
+mod Renewals
+mod Versions
