@@ -1,9 +1,9 @@
 // A device over a plain list.
-ghost use Rattle.std.specs.Prelude.{◌≡◌, ◌≤◌, ◌*◌, ◌^◌, ◌-◌, option_copied};
+ghost use Rattle.std.specs.Prelude.{◌≡◌, false, IsOk, ◌≤◌, ◌*◌, ◌^◌, ◌-◌, option_copied};
 ghost use Rattle.md5.specs.Md5.{md5};
 ghost use Rattle.keep_spec.specs.Times.{IsReading, nanos};
 ghost use Rattle.keep_event.specs.Device as machine;
-ghost use Rattle.keep_plain.specs.Lines.{IsLine, reply};
+ghost use Rattle.keep_plain.specs.Lines.{IsLine, reply, takes_memory};
 
 use crate::held::{find, put, remove, rename, set_time};
 use crate::walks::{first_due, last_copy, page, used};
@@ -49,7 +49,7 @@ impl PlainDevice {
         }
     }
 
-    /// Makes the call that the query names, by the rules of the device. A token has no part in it.
+    /// Makes the call that the query names, by the rules of the device. A token has no part in it. Only a write, a fetch, an accept and a page may want memory.
     pub fn step(
         &mut self,
         rules: DeviceRules,
@@ -58,6 +58,7 @@ impl PlainDevice {
     ) -> Result<DeviceAnswer, NoMemory>
         requires { IsReading reading }
         ensures line { IsLine (machine.step rules reading query.now self.old) self.old self.new result }
+        ensures memory { takes_memory query.now ≡ false → IsOk result }
     {
         match query {
             DeviceQuery::CompareTouch { block, token: _ } => {

@@ -1,9 +1,9 @@
 // The devices of a configuration, each over a plain list.
-ghost use Rattle.std.specs.Prelude.{◌≡◌, ◌<◌, IfOk, length, map, slice_index_or};
+ghost use Rattle.std.specs.Prelude.{◌≡◌, ◌<◌, false, IsOk, IfOk, length, map, slice_index_or};
 ghost use Rattle.keep_spec.specs.Times.{IsReading};
 ghost use Rattle.keep_event.specs.Device as machine;
 ghost use Rattle.keep_event.specs.World as worlds;
-ghost use Rattle.keep_plain.specs.Lines.{IsLineOf};
+ghost use Rattle.keep_plain.specs.Lines.{IsLineOf, takes_memory};
 
 use crate::PlainDevice;
 use keep_config::Config;
@@ -53,6 +53,7 @@ impl PlainDevices {
         requires configured { device < length config.now.devices }
         requires reading { IsReading reading }
         ensures line { IsLineOf device (machine.step (worlds.device_rules config.now device) reading query.now (slice_index_or self.old device machine.initial)) self.old self.new result }
+        ensures memory { takes_memory query.now ≡ false → IsOk result }
     {
         let rules = device_rules(config, device);
         let asked = &mut self.devices[device as usize];
