@@ -12,7 +12,8 @@ use Rattle.keep_history.specs.declared.task.Outcome.{Outcome}
 use Rattle.keep_history.specs.declared.task.Task.{Task}
 use Rattle.keep_history.specs.declared.task.Task.TheVariants as T
 use Rattle.keep_history.specs.Effects.{Asked, Made, Standing, after_made, answered_by, asked_on, event_of, events_max, with_answer}
-use Rattle.keep_history.specs.Tasks.{Answered, Next, asks, ends, ends_or, next, walk, on_device, by_all, writes, compare_end, write_end, fetch_end, touch_end, no_end, not_written, not_fetched, not_touched, untrashed}
+use Rattle.keep_history.specs.Next.{Answered, Next, asks, ends, ends_or}
+use Rattle.keep_history.specs.Tasks.{next, walk, on_device, by_all, writes, compare_end, write_end, fetch_end, touch_end, no_end, not_written, not_fetched, not_touched, untrashed}
 
 -- how often a task asks at most: a put each of its devices twice, the others of blocks each of theirs once, the rest once
 abbrev pub most_asks : Task → ℕ

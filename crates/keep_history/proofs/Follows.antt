@@ -26,7 +26,8 @@ use Rattle.keep_history.specs.declared.task.TaskState.TheVariants as S
 use Rattle.keep_history.specs.Effects.{Scene, Standing, Effect, Ending, Asked, Made, after_made, asked_on, asked_in, asked_effect, asking_effect, command_in, effect_of_command, effect_of_line, event_of, events_max, finish_turns, is_failed, open_effect, state_after, state_of, step_turns, with_answer}
 use Rattle.keep_history.specs.Names.{Named, Seen, at_name, is_open, seen, seen_names, with_name}
 use Rattle.keep_history.specs.Script.{command_of, command_of_data, finishes, name_at, open_named, opening_of_kind, opens, reading_at, steps}
-use Rattle.keep_history.specs.Tasks.{Next, asks, ends, next, opened}
+use Rattle.keep_history.specs.Next.{Next, asks, ends}
+use Rattle.keep_history.specs.Tasks.{next, opened}
 use Rattle.keep_history.specs.Whole.{AreFair, EndsWell, command_at, is_asked}
 use Rattle.keep_history.proofs.Collisions.{IsWorldOf, SceneTakes, asked-world, scene-takes}
 use Rattle.keep_history.proofs.Lines.{both-some, some-more}

@@ -32,7 +32,8 @@ use Rattle.keep_history.specs.Effects.{Scene, Standing, Effect, Asked, Made, aft
 use Rattle.keep_history.specs.Ended.{Begun, begun_of}
 use Rattle.keep_history.specs.Reads.{bytes_put, Read, read_by, read_in, IsAmong, IsOfPut, AreOfPuts, ReadsAreOfPuts}
 use Rattle.keep_history.specs.Run.{at_start}
-use Rattle.keep_history.specs.Tasks.{Answered, Next, asks, ends, ends_or, next, walk, on_device, by_all, writes, compare_end, write_end, fetch_end, touch_end, no_end, not_written, not_fetched, not_touched, untrashed, first_found, any_fault}
+use Rattle.keep_history.specs.Next.{Answered, Next, asks, ends, ends_or}
+use Rattle.keep_history.specs.Tasks.{next, walk, on_device, by_all, writes, compare_end, write_end, fetch_end, touch_end, no_end, not_written, not_fetched, not_touched, untrashed, first_found, any_fault}
 use Rattle.keep_history.proofs.Held.{HoldAll, BringsAll, all-found, step-all}
 use Rattle.keep_history.proofs.Lines.{AskedHas, Begins, CommandHas, GoesOn, SceneHas, StateHas, both-some, line-gives, line-keeps, some-more}
 use Rattle.keep_history.proofs.Names.{all-more}

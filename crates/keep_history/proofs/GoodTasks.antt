@@ -37,7 +37,8 @@ use Rattle.keep_history.specs.Ended.{Begun, begun_of}
 use Rattle.keep_history.specs.Run.{at_start}
 use Rattle.keep_history.specs.Collisions.{block_on, HasOther}
 use Rattle.keep_history.specs.Effects.{Effect, Scene, Standing, answered_by, command_in, effect_of_command, effect_of_line, open_effect, event_of, is_failed, with_answer}
-use Rattle.keep_history.specs.Tasks.{empty_locator, opened, permitted_block, writable, Answered, Next, asks, ends, ends_or, next, walk, on_device, by_all, writes, is_read_only, compare_end, write_end, fetch_end, not_written, not_fetched}
+use Rattle.keep_history.specs.Next.{Answered, Next, asks, ends, ends_or}
+use Rattle.keep_history.specs.Tasks.{empty_locator, opened, permitted_block, writable, next, walk, on_device, by_all, writes, is_read_only, compare_end, write_end, fetch_end, not_written, not_fetched}
 use Rattle.keep_history.specs.Whole.{AreEndedWell, GoodTasksEndWell, HasRoom, IsFairGet, IsFairPut, IsGoodGet, IsGoodPut, IsRead, IsStored, OpeningEndsWell, OpensWell, command_at, is_among}
 use Rattle.keep_history.proofs.Collisions.{CollidesNext, IsWorldOf, SceneTakes, new-world, next-collides, rules-change, scene-takes, takes-changes}
 use Rattle.keep_history.proofs.Follows.{IsGoodNext, at-same, goes-well}

@@ -15,7 +15,8 @@ use Rattle.keep_history.specs.declared.task.TaskState.{TaskState}
 use Rattle.keep_history.specs.declared.task.TaskState.TheVariants as S
 use Rattle.keep_history.specs.declared.task.Outcome.{Outcome}
 use Rattle.keep_history.specs.declared.task.Outcome.TheVariants as O
-use Rattle.keep_history.specs.Tasks.{Answered, Next, asks, ends, next, opened}
+use Rattle.keep_history.specs.Next.{Answered, Next, asks, ends}
+use Rattle.keep_history.specs.Tasks.{next, opened}
 use Rattle.keep_history.specs.Names.{Named, at_name, with_name, seen_names}
 use Rattle.keep_history.specs.Script.{command_of}
 use Rattle.keep_history.specs.Printed.{event_line, table_event_line, end_line}

@@ -3,6 +3,7 @@ pub mod Effects
 pub mod Ended
 pub mod Finished
 pub mod Names
+pub mod Next
 pub mod Printed
 pub mod Reads
 pub mod Run

@@ -29,6 +29,7 @@ use Rattle.keep_event.specs.declared.event.Query.{Query}
 use Rattle.keep_event.specs.declared.event.Query.TheVariants as Query
 use Rattle.keep_event.specs.declared.event.Answer.{Answer}
 use Rattle.keep_event.specs.declared.event.Answer.TheVariants as An
+use Rattle.keep_history.specs.Next.{Answered, Next, asks, ends, ends_or}
 use Rattle.keep_history.specs.declared.task.Opening.{Opening}
 use Rattle.keep_history.specs.declared.task.Opening.TheVariants as Open
 use Rattle.keep_history.specs.declared.task.Task.{Task}
@@ -154,20 +155,6 @@ opened c (Open.Restore token collection) reading = asks_table (TQ.Restore token 
 opened c Open.Sweep reading = asks_table TQ.Sweep
 
 -- QUERIES AND ENDS
--- an answer that a task was given, with the number of its event
-pub record Answered : Type 0 where
-  pub tick : ℕ
-  pub answer : Answer
-
--- a task asks, or has ended
-pub data Next : Type 0 where
-  asks : Query → Next
-  ends : Outcome → Next
-
-abbrev pub ends_or : Option Outcome → Next → Next
-ends_or None next = next
-ends_or (Some o) next = ends o
-
 -- A walk over devices: each in turn is asked the query, until an answer ends the task. After the last, all that they answered says how the task goes on with the answers that are left.
 unfoldable pub walk : DeviceQuery → (Answer → Option Outcome) → (List Answer → List Answered → Next) → List Answer → List ℕ → List Answered → Next
 walk query end after seen [] answers = after seen answers

@@ -18,7 +18,8 @@ use Rattle.keep_cluster.specs.Cluster.{View, world_of, stamp_of, faults_at}
 use Rattle.keep_history.specs.declared.task.Outcome.{Outcome}
 use Rattle.keep_history.specs.Effects.{Made, Asked, Standing, asked_on, event_of, events_max, is_failed, with_answer, line_of, event_lines, after_made}
 use Rattle.keep_history.specs.Ended.{is_on, left_after}
-use Rattle.keep_history.specs.Tasks.{Answered, Next, asks, ends, next, is_fault}
+use Rattle.keep_history.specs.Next.{Answered, Next, asks, ends}
+use Rattle.keep_history.specs.Tasks.{next, is_fault}
 use Rattle.keep_tasks.specs.Running.{stands, query_of}
 use Rattle.keep_tasks.specs.Steps.{IsAsked, IsReturned, AsksOnce, IsTaken, answered}
 use Rattle.keep_tasks.specs.declared.steps.Step.{Step}

@@ -2,7 +2,8 @@
 use Rattle.std.proofs.Common.{◌≡◌, List, [], Some, sym, ◌∙◌, ap}
 use Rattle.std.proofs.lemmas.List.{append-nil}
 use Rattle.keep_event.specs.declared.device.DeviceQuery.TheVariants as Q
-use Rattle.keep_history.specs.Tasks.{Answered, Next, asks, on_device, by_all, fetch_end, touch_end, no_end, not_fetched, not_touched, untrashed}
+use Rattle.keep_history.specs.Next.{Answered, Next, asks}
+use Rattle.keep_history.specs.Tasks.{on_device, by_all, fetch_end, touch_end, no_end, not_fetched, not_touched, untrashed}
 use Rattle.keep_tasks.specs.Running.{query_of, stands}
 use Rattle.keep_tasks.specs.declared.running.Running.{Running}
 use Rattle.keep_tasks.specs.declared.running.Running.TheVariants as R

@@ -29,7 +29,8 @@ use Rattle.keep_history.specs.declared.task.Task.TheVariants as T
 use Rattle.keep_history.specs.Effects.{Scene, Standing, Effect, Ending, Asked, after_made, answered_by, asked_on, asked_in, command_in, effect_of_line, event_of, events_max, is_failed, with_answer}
 use Rattle.keep_history.specs.Ended.{Begun, begun_of}
 use Rattle.keep_history.specs.Run.{at_start}
-use Rattle.keep_history.specs.Tasks.{Answered, Next, asks, ends, ends_or, next, walk, on_device, by_all, writes, compare_end, write_end, fetch_end, touch_end, no_end, not_written, not_fetched, not_touched, untrashed, table_end, table_end_of}
+use Rattle.keep_history.specs.Next.{Answered, Next, asks, ends, ends_or}
+use Rattle.keep_history.specs.Tasks.{next, walk, on_device, by_all, writes, compare_end, write_end, fetch_end, touch_end, no_end, not_written, not_fetched, not_touched, untrashed, table_end, table_end_of}
 use Rattle.keep_history.proofs.Collisions.{IsWorldOf, asked-world, new-world}
 use Rattle.keep_history.proofs.Lines.{AskedHas, Begins, CommandHas, GoesOn, SceneHas, both-some, line-gives, line-keeps, some-more}
 use Rattle.keep_history.proofs.Openings.{IsMade}

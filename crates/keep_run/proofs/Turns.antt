@@ -8,7 +8,8 @@ use Rattle.keep_event.specs.World.{World}
 use Rattle.keep_event.specs.declared.event.Query.{Query}
 use Rattle.keep_history.specs.declared.task.Outcome.{Outcome}
 use Rattle.keep_history.specs.Effects.{Made, Asked, Standing, asked_on, after_made, event_of, events_max, with_answer}
-use Rattle.keep_history.specs.Tasks.{Next, asks, ends, next}
+use Rattle.keep_history.specs.Next.{Next, asks, ends}
+use Rattle.keep_history.specs.Tasks.{next}
 use Rattle.keep_run.specs.Turns.{after_all}
 
 pub after-all-is : (ms : List Made) (rest : Asked) → after_all ms rest ≡ record { made = ms ++ rest.made; world = rest.world; standing = rest.standing; outcome = rest.outcome; spent = rest.spent }

@@ -9,7 +9,8 @@ use Rattle.keep_history.specs.declared.task.Task.{Task}
 use Rattle.keep_history.specs.declared.task.Task.TheVariants as T
 use Rattle.keep_event.specs.declared.event.Query.TheVariants as Query
 use Rattle.keep_event.specs.declared.device.DeviceQuery.TheVariants as Q
-use Rattle.keep_history.specs.Tasks.{Answered, Next, next, opened, put_opened, get_opened, touch_opened, untrash_opened}
+use Rattle.keep_history.specs.Next.{Answered, Next}
+use Rattle.keep_history.specs.Tasks.{next, opened, put_opened, get_opened, touch_opened, untrash_opened}
 use Rattle.keep_tasks.specs.Kinds.{IsRestart}
 use Rattle.keep_tasks.specs.Running.{as_any}
 use Rattle.keep_tasks.specs.Steps.{IsOpened, IsReady}

@@ -16,7 +16,8 @@ use Rattle.keep_event.specs.declared.table.TableAnswer.TheVariants as TA
 use Rattle.keep_history.specs.declared.task.Outcome.{Outcome}
 use Rattle.keep_history.specs.declared.task.Outcome.TheVariants as O
 use Rattle.keep_history.specs.declared.task.Task.TheVariants as T
-use Rattle.keep_history.specs.Tasks.{Answered, Next, asks, ends, next, one, table_end, table_end_of}
+use Rattle.keep_history.specs.Next.{Answered, Next, asks, ends}
+use Rattle.keep_history.specs.Tasks.{next, one, table_end, table_end_of}
 use Rattle.keep_tasks.specs.Steps.{IsTaken}
 use Rattle.keep_tasks.specs.Tables.{IsTable, ends_of, is_read, is_row, uuid_beginning}
 use Rattle.keep_tasks.specs.declared.table.Ends.{Ends}

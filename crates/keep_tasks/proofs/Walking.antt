@@ -5,7 +5,8 @@ use Rattle.keep_event.specs.declared.event.Answer.{Answer}
 use Rattle.keep_event.specs.declared.event.Query.TheVariants as Q
 use Rattle.keep_event.specs.declared.device.DeviceQuery.{DeviceQuery}
 use Rattle.keep_history.specs.declared.task.Outcome.{Outcome}
-use Rattle.keep_history.specs.Tasks.{Answered, Next, asks, ends, ends_or, walk}
+use Rattle.keep_history.specs.Next.{Answered, Next, asks, ends, ends_or}
+use Rattle.keep_history.specs.Tasks.{walk}
 use Rattle.keep_tasks.specs.Walks.{IsAt, IsWalking}
 use Rattle.keep_tasks.specs.declared.walk.Walk.{Walk}
 

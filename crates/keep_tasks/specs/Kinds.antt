@@ -11,7 +11,8 @@ use Rattle.keep_event.specs.declared.device.DeviceQuery.TheVariants as Q
 use Rattle.keep_event.specs.declared.event.Answer.{Answer}
 use Rattle.keep_history.specs.declared.task.Outcome.{Outcome}
 use Rattle.keep_history.specs.declared.task.Outcome.TheVariants as O
-use Rattle.keep_history.specs.Tasks.{Answered, Next, one, restarted, on_device, by_all, compare_end, write_end, writes, fetch_end, touch_end, no_end, not_written, not_fetched, not_touched, untrashed}
+use Rattle.keep_history.specs.Next.{Answered, Next}
+use Rattle.keep_history.specs.Tasks.{one, restarted, on_device, by_all, compare_end, write_end, writes, fetch_end, touch_end, no_end, not_written, not_fetched, not_touched, untrashed}
 use Rattle.keep_tasks.specs.Unsigned.{Beginning, unsigned}
 use Rattle.keep_tasks.specs.Walks.{IsWalking, IsAt, AreBelow}
 use Rattle.keep_tasks.specs.declared.walk.Walk.{Walk}

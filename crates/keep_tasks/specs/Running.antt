@@ -2,7 +2,7 @@
 use Rattle.std.specs.Prelude.{ℕ, List, Bool, true, false, not}
 use Rattle.keep_event.specs.Port.{MayAsk}
 use Rattle.keep_event.specs.declared.event.Query.{Query}
-use Rattle.keep_history.specs.Tasks.{Answered, Next}
+use Rattle.keep_history.specs.Next.{Answered, Next}
 use Rattle.keep_tasks.specs.Kinds.{IsPut, ArePut, IsGet, IsTouch, IsUntrash, IsRestart}
 use Rattle.keep_tasks.specs.Tables.{IsTable, is_read}
 use Rattle.keep_tasks.specs.Walks.{AreBelow}

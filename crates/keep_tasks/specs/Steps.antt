@@ -10,7 +10,8 @@ use Rattle.keep_event.specs.declared.port.PortError.TheVariants as E
 use Rattle.keep_event.specs.declared.port.Reply.{Reply}
 use Rattle.keep_history.specs.declared.task.Outcome.{Outcome}
 use Rattle.keep_history.specs.declared.task.Task.{Task}
-use Rattle.keep_history.specs.Tasks.{Answered, Next, ends, next}
+use Rattle.keep_history.specs.Next.{Answered, Next, ends}
+use Rattle.keep_history.specs.Tasks.{next}
 use Rattle.keep_spec.specs.Config.{Configuration}
 use Rattle.keep_tasks.specs.declared.steps.Opened.{Opened}
 use Rattle.keep_tasks.specs.declared.steps.Opened.TheVariants as O

@@ -8,7 +8,8 @@ use Rattle.keep_event.specs.declared.table.TableQuery.{TableQuery}
 use Rattle.keep_event.specs.declared.table.TableQuery.TheVariants as TQ
 use Rattle.keep_event.specs.declared.table.TableAnswer.{TableAnswer}
 use Rattle.keep_event.specs.declared.table.TableAnswer.TheVariants as TA
-use Rattle.keep_history.specs.Tasks.{Answered, Next, one, table_end_of}
+use Rattle.keep_history.specs.Next.{Answered, Next}
+use Rattle.keep_history.specs.Tasks.{one, table_end_of}
 use Rattle.keep_tasks.specs.declared.table.Ends.{Ends}
 
 -- the first 12 bytes of the UUID of each collection of the cluster

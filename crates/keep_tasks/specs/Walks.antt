@@ -6,7 +6,8 @@ use Rattle.keep_event.specs.declared.event.Query.{Query}
 use Rattle.keep_event.specs.declared.event.Query.TheVariants as Q
 use Rattle.keep_event.specs.declared.device.DeviceQuery.{DeviceQuery}
 use Rattle.keep_history.specs.declared.task.Outcome.{Outcome}
-use Rattle.keep_history.specs.Tasks.{Answered, Next, walk, any_fault, first_found, copies_back, any_present}
+use Rattle.keep_history.specs.Next.{Answered, Next}
+use Rattle.keep_history.specs.Tasks.{walk, any_fault, first_found, copies_back, any_present}
 use Rattle.keep_tasks.specs.declared.seen.Seen.{Seen}
 use Rattle.keep_tasks.specs.declared.walk.Walk.{Walk}
 

@@ -115,7 +115,8 @@ impl Steps for PutTask {
 impl PutTask {
     ghost use Rattle.keep_tasks.specs.Kinds.{IsPut, ArePut, BeginsWrites};
     ghost use Rattle.keep_tasks.specs.Steps.{IsTaken};
-    ghost use Rattle.keep_history.specs.Tasks.{next, Answered, Next};
+    ghost use Rattle.keep_history.specs.Next.{Answered, Next};
+    ghost use Rattle.keep_history.specs.Tasks.{next};
     ghost use Rattle.std.specs.Prelude.{false, true, [], ◌∷◌, ◌++◌, is_some};
     ghost use Rattle.keep_history.specs.Tasks.{opened};
     ghost use Rattle.keep_history.specs.declared.task.Opening.{Opening as TheOpening};

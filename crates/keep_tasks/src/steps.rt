@@ -4,7 +4,7 @@ ghost use Rattle.keep_spec.specs.Causes.{Rose};
 ghost use Rattle.keep_event.specs.Answers.{IsAnswerOf};
 ghost use Rattle.keep_event.specs.Port.{MayAsk};
 ghost use Rattle.keep_event.specs.declared.event.Query.{Query as TheQuery};
-ghost use Rattle.keep_history.specs.Tasks.{Answered, Next, asks};
+ghost use Rattle.keep_history.specs.Next.{Answered, Next, asks};
 ghost use Rattle.keep_tasks.specs.Steps.{AsksOnce, IsTaken, answered, view};
 
 use keep_event::{Port, PortError, Query, Reply};

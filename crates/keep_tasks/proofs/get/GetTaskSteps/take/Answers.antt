@@ -1,6 +1,7 @@
 use Rattle.keep_event.specs.declared.device.DeviceQuery.TheVariants as Q
 use Rattle.std.proofs.Common.{[], ◌∷◌, ◌++◌, ◌≡◌, None, ap, sym, ◌∙◌}
-use Rattle.keep_history.specs.Tasks.{ends, on_device, by_all, fetch_end, not_fetched}
+use Rattle.keep_history.specs.Next.{ends}
+use Rattle.keep_history.specs.Tasks.{on_device, by_all, fetch_end, not_fetched}
 use Rattle.keep_tasks.proofs.Taking.{none_when}
 use Rattle.keep_tasks.proofs.Walking.{walk-ends, walk-last, walk-moves}
 use Rattle.keep_tasks.proofs.get.GetTaskSteps.take.Goals as goal

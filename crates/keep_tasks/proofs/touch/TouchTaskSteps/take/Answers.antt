@@ -1,6 +1,7 @@
 use Rattle.keep_event.specs.declared.device.DeviceQuery.TheVariants as Q
 use Rattle.std.proofs.Common.{[], ◌∷◌, ◌++◌, ◌≡◌, None, Some, ap, sym, ◌∙◌}
-use Rattle.keep_history.specs.Tasks.{ends, on_device, by_all, touch_end, not_touched}
+use Rattle.keep_history.specs.Next.{ends}
+use Rattle.keep_history.specs.Tasks.{on_device, by_all, touch_end, not_touched}
 use Rattle.keep_tasks.proofs.Taking.{none_when}
 use Rattle.keep_tasks.proofs.Walking.{walk-ends, walk-last, walk-moves}
 use Rattle.keep_tasks.proofs.touch.TouchTaskSteps.take.Goals as goal

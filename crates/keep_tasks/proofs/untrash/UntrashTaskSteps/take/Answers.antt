@@ -1,6 +1,7 @@
 use Rattle.keep_event.specs.declared.device.DeviceQuery.TheVariants as Q
 use Rattle.std.proofs.Common.{[], ◌∷◌, ◌++◌, ap, sym, ◌∙◌}
-use Rattle.keep_history.specs.Tasks.{ends, on_device, by_all, no_end, untrashed}
+use Rattle.keep_history.specs.Next.{ends}
+use Rattle.keep_history.specs.Tasks.{on_device, by_all, no_end, untrashed}
 use Rattle.keep_tasks.proofs.Taking.{goes-on}
 use Rattle.keep_tasks.proofs.Walking.{walk-last, walk-moves}
 use Rattle.keep_tasks.proofs.untrash.UntrashTaskSteps.take.Goals as goal
