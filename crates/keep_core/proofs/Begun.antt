@@ -21,7 +21,8 @@ use Rattle.keep_event.specs.declared.event.Answer.TheVariants as A
 use Rattle.keep_core.specs.Allowed.{IsAllowed}
 use Rattle.keep_spec.specs.Members.{IsIn}
 use Rattle.keep_core.specs.Past.{Past, table_after, IsAnswered}
-use Rattle.keep_core.specs.Rounds.{Round, gave, device_gave, table_gave, round_in, stage, at_stage, IsInOrder, AreWhole, with_cleared, with_page, with_started, with_scan}
+use Rattle.keep_history.specs.Rounds.{Round, gave, device_gave, table_gave, with_cleared, with_page, with_started, with_scan}
+use Rattle.keep_core.specs.Rounds.{round_in, stage, at_stage, IsInOrder, AreWhole}
 use Rattle.keep_core.specs.Rows.{is_last_scan, first_of_two, scanned}
 use Rattle.keep_core.specs.Times.{now}
 use Rattle.keep_core.proofs.Scans.{AddsScan, adds-scan, round_if}

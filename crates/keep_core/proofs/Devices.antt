@@ -28,7 +28,8 @@ use Rattle.keep_spec.specs.Members.{IsIn}
 use Rattle.keep_event.specs.World.{device_rules}
 use Rattle.keep_core.specs.Past.{Past, left_by, device_after, IsAnswered}
 use Rattle.keep_core.proofs.Items.{told}
-use Rattle.keep_core.specs.Rounds.{Round, Given, gave, device_gave, table_gave, round_in, IsGathered, stage, at_stage, IsInOrder, with_cleared, with_page, with_started, with_scan}
+use Rattle.keep_history.specs.Rounds.{Round, Given, gave, device_gave, table_gave, with_cleared, with_page, with_started, with_scan}
+use Rattle.keep_core.specs.Rounds.{round_in, IsGathered, stage, at_stage, IsInOrder}
 use Rattle.keep_core.specs.Signatures.{digest_named}
 use Rattle.keep_core.proofs.Lines.{Goes, Does, step-does}
 use Rattle.keep_core.proofs.Names.{bytes-self}

@@ -8,7 +8,7 @@ use Rattle.keep_event.specs.declared.lists.TrashItem.{TrashItem}
 use Rattle.keep_order.proofs.Lists.{in-map}
 use Rattle.keep_plan.specs.Laws.{Gives, IsOfOther}
 use Rattle.keep_plan.proofs.Items as plan
-use Rattle.keep_core.specs.Rounds.{Round, Given, gathered, page_of}
+use Rattle.keep_history.specs.Rounds.{Round, Given, gathered, page_of}
 
 -- what the lists are made of: they don't depend on the round's number, nor on its start but for the threshold
 abbrev pub told : Round → Gathered

@@ -14,7 +14,8 @@ use Rattle.keep_core.specs.Holds.{holds, copies}
 use Rattle.keep_spec.specs.Members.{IsIn, numbers_from}
 use Rattle.keep_event.specs.World.{device_rules}
 use Rattle.keep_core.specs.Past.{Past, device_after}
-use Rattle.keep_core.specs.Rounds.{Round, round_in, IsGathered}
+use Rattle.keep_history.specs.Rounds.{Round}
+use Rattle.keep_core.specs.Rounds.{round_in, IsGathered}
 use Rattle.keep_core.proofs.Devices.{device-facts, HasTrashed, IsListed}
 use Rattle.keep_order.proofs.Distinct.{number-in}
 use Rattle.keep_core.proofs.Distinct.{no-more}

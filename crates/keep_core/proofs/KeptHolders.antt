@@ -6,7 +6,7 @@ use Rattle.keep_event.specs.Plan.{trash_list, wanted_in, gathered_rows, kept, ho
 use Rattle.keep_event.specs.declared.lists.Entry.{Entry}
 use Rattle.keep_event.specs.declared.lists.TrashItem.{TrashItem}
 use Rattle.keep_plan.proofs.Items as plan
-use Rattle.keep_core.specs.Rounds.{Round}
+use Rattle.keep_history.specs.Rounds.{Round}
 use Rattle.keep_core.proofs.Items.{told, IsGiven, given-by}
 
 abbrev pub kept_of : Configuration → Round → List ℕ → List ℕ

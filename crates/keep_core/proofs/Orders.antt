@@ -9,7 +9,8 @@ use Rattle.keep_event.specs.declared.event.Answer.{Answer}
 use Rattle.keep_table.proofs.Counts.{bit, count-cons}
 use Rattle.keep_spec.specs.Members.{IsIn}
 use Rattle.keep_core.specs.Past.{Past}
-use Rattle.keep_core.specs.Rounds.{Round, no_round, gave, round_in, Stage, stage, at_stage, MayPrecede, IsInOrder}
+use Rattle.keep_history.specs.Rounds.{Round, no_round, gave}
+use Rattle.keep_core.specs.Rounds.{round_in, Stage, stage, at_stage, MayPrecede, IsInOrder}
 use Rattle.keep_spec.specs.Members.{AreDistinct}
 use Rattle.keep_core.proofs.Settled.{all-settled}
 

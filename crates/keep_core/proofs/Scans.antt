@@ -32,7 +32,8 @@ use Rattle.keep_table.proofs.Orderly.{scan-rises}
 use Rattle.keep_core.specs.Allowed.{IsAllowed}
 use Rattle.keep_spec.specs.Members.{IsIn, names}
 use Rattle.keep_core.specs.Past.{Past, table_after, IsAnswered}
-use Rattle.keep_core.specs.Rounds.{Round, gave, device_gave, round_in, AreChained, AreWhole, with_scan, with_started, with_cleared, with_page}
+use Rattle.keep_history.specs.Rounds.{Round, gave, device_gave, with_scan, with_started, with_cleared, with_page}
+use Rattle.keep_core.specs.Rounds.{round_in, AreChained, AreWhole}
 use Rattle.keep_core.specs.Rows.{Row, rows, rows_after, rows_made, makes, scan_row, is_last_scan, first_of_two, scanned, asked, stays_at_update, stays_at_sweep, superseded_by, new_row}
 use Rattle.keep_order.proofs.Lists.{in-map, map-in, in-filter, filter-in, in-either, in-left, in-right, all-at}
 use Rattle.keep_core.proofs.Names.{bytes-eq}

@@ -15,7 +15,8 @@ use Rattle.keep_event.specs.declared.event.Query.TheVariants as Q
 use Rattle.keep_event.specs.declared.event.Answer.{Answer}
 use Rattle.keep_event.specs.declared.event.Answer.TheVariants as A
 use Rattle.keep_core.specs.Past.{Past, IsAnswered}
-use Rattle.keep_core.specs.Rounds.{Round, gathered, round_in, IsGathered, IsInOrder}
+use Rattle.keep_history.specs.Rounds.{Round, gathered}
+use Rattle.keep_core.specs.Rounds.{round_in, IsGathered, IsInOrder}
 
 -- the lists that a device took are those of the round's plan, of a round that was whole
 pub record ArePlanned (c : Configuration) (round : ℕ) (g : Round) (d : ℕ) (lists : Lists) : Type 0 where

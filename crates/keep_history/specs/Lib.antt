@@ -6,6 +6,7 @@ pub mod Names
 pub mod Next
 pub mod Printed
 pub mod Reads
+pub mod Rounds
 pub mod Run
 pub mod Script
 pub mod Tasks
