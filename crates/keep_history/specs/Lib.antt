@@ -1,3 +1,4 @@
+pub mod Balance
 pub mod Collisions
 pub mod Effects
 pub mod Ended

@@ -130,6 +130,13 @@ outcome_words (O.Unsigned index why) = codes "Unsigned" ++ number_field index ++
 outcome_words (O.WrongHash computed) = codes "WrongHash" ++ portable_field computed
 outcome_words O.BadWant = codes "BadWant"
 outcome_words (O.TooManyVersions held) = codes "TooManyVersions" ++ number_field held
+outcome_words (O.Balanced round trash pull lost stale) = codes "Balanced" ++ number_field round ++ number_field trash ++ number_field pull ++ number_field lost ++ number_field stale
+outcome_words (O.Stale device held) = codes "Stale" ++ number_field device ++ number_field held
+outcome_words (O.Disordered earlier later) = codes "Disordered" ++ number_field earlier ++ number_field later
+outcome_words (O.Trashed replicas) = codes "Trashed" ++ number_field replicas
+outcome_words (O.Pulled done failed) = codes "Pulled" ++ number_field done ++ number_field failed
+outcome_words (O.Emptied copies) = codes "Emptied" ++ number_field copies
+outcome_words O.ReadOnly = codes "ReadOnly"
 
 -- the line of an event of a named task on a device
 unfoldable pub event_line : List ℕ → ℕ → DeviceAnswer → List ℕ

@@ -1,5 +1,5 @@
 -- What the gets of a script return: bytes that an earlier line put, whose MD5 is the digest asked for.
-use Rattle.std.specs.Prelude.{◌≡◌, ℕ, List, [], ◌∷◌, ◌++◌, take, length, Option, None, Some, IfSome, ⊤, ◌⊎◌}
+use Rattle.std.specs.Prelude.{◌≡◌, ℕ, List, [], ◌∷◌, ◌++◌, Option, None, Some, IfSome, ⊤, ◌⊎◌}
 use Rattle.md5.specs.Md5.{md5}
 use Rattle.keep_spec.specs.Config.{Configuration}
 use Rattle.keep_spec.specs.Lines.{cut, text_of}
@@ -10,7 +10,7 @@ use Rattle.keep_history.specs.declared.task.Outcome.{Outcome}
 use Rattle.keep_history.specs.declared.task.Outcome.TheVariants as O
 use Rattle.keep_history.specs.declared.task.Task.{Task}
 use Rattle.keep_history.specs.declared.task.Task.TheVariants as T
-use Rattle.keep_history.specs.Effects.{Scene, Ending, Effect, command_in, effect_of_line}
+use Rattle.keep_history.specs.Effects.{Scene, Ending, command_in, effect_of_line}
 use Rattle.keep_history.specs.Ended.{Begun, begun_of}
 use Rattle.keep_history.specs.Run.{at_start}
 

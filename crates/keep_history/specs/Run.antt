@@ -1,5 +1,5 @@
 -- What a run does, line after line, how it ends by itself, and what it leaves. This is the project's own rule.
-use Rattle.std.specs.Prelude.{ℕ, zero, suc, ◌+◌, ◌==◌, ◌&&◌, nat_lt, List, [], ◌∷◌, ◌++◌, length, map, take, drop, Bool, Option, None, Some, option_map, option_and_then, if◌then◌else◌, Result, Ok, Err}
+use Rattle.std.specs.Prelude.{ℕ, suc, ◌+◌, ◌==◌, ◌&&◌, nat_lt, List, [], ◌∷◌, ◌++◌, length, map, take, drop, Bool, Option, None, Some, option_map, if◌then◌else◌, Result, Ok, Err}
 use Rattle.keep_spec.specs.Lines.{cut, text_of, Verdict, fits, line_too_long, input_too_long, verdict_of}
 use Rattle.keep_spec.specs.Config.{Configuration, config_of}
 use Rattle.keep_spec.specs.declared.config.Field.{Field}

@@ -218,6 +218,40 @@ pub enum Outcome {
     TooManyVersions {
         held: u64,
     },
+    /// A balance task's round came to its end. `trash`, `pull` and `lost` are the plan's numbers of trash items, of pull items and of lost digests, with those
+    /// of lists that a device refused; `stale` is the number of devices that refused theirs, since they keep another round.
+    Balanced {
+        round: u64,
+        trash: u64,
+        pull: u64,
+        lost: u64,
+        stale: u64,
+    },
+    /// A balance task's round isn't the one that a device keeps, `held`: a later one where the device was to be cleared, another where it was asked for a page.
+    Stale {
+        device: u32,
+        held: u64,
+    },
+    /// A page or rows came to a balance task with the tick `later`, which isn't above `earlier`, the greatest tick of its round's clears.
+    Disordered {
+        earlier: u64,
+        later: u64,
+    },
+    /// A trash worker trashed this many replicas.
+    Trashed {
+        replicas: u64,
+    },
+    /// A pull worker wrote the blocks of `done` items, and those of `failed` items not.
+    Pulled {
+        done: u64,
+        failed: u64,
+    },
+    /// An empty worker removed this many trashed copies.
+    Emptied {
+        copies: u64,
+    },
+    /// An empty worker's device is read-only. It is as before.
+    ReadOnly,
 }
 
 /// What has become of a name that a script opened. `T` is what is kept of a task that asks.
