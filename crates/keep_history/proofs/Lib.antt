@@ -1,6 +1,7 @@
 pub mod Asking
 pub mod Collisions
 pub mod Configured
+pub mod Example
 pub mod Finished
 pub mod Follows
 pub mod GetsOfPuts

@@ -12,3 +12,4 @@ pub mod Run
 pub mod Script
 pub mod Tasks
 pub mod Whole
+pub mod Workers
