@@ -1,6 +1,7 @@
 -- Balance tasks and workers on a few answers: what each asks next, and how it ends.
-use Rattle.std.proofs.Common.{◌≡◌, ℕ, List, [], ◌∷◌, true, false, None, refl}
+use Rattle.std.proofs.Common.{◌≡◌, ℕ, List, [], ◌∷◌, true, false, None, Some, Ok, refl}
 use Rattle.std.specs.Prelude.{codes, length}
+use Rattle.serde_json.specs.Data.{Data, Members, member, no_members, number, object, string, unsigned}
 use Rattle.keep_spec.specs.Config.{Configuration}
 use Rattle.keep_spec.specs.declared.config.Device.{Device}
 use Rattle.keep_event.specs.declared.lists.Entry.{Entry}
@@ -15,10 +16,15 @@ use Rattle.keep_event.specs.declared.table.TableAnswer.TheVariants as TA
 use Rattle.keep_event.specs.declared.table.TableQuery.TheVariants as TQ
 use Rattle.keep_event.specs.declared.event.Query.TheVariants as Query
 use Rattle.keep_event.specs.declared.event.Answer.TheVariants as An
+use Rattle.keep_history.specs.declared.task.Command.TheVariants as C
+use Rattle.keep_history.specs.declared.task.Opening.TheVariants as Open
 use Rattle.keep_history.specs.declared.task.Outcome.TheVariants as O
+use Rattle.keep_history.specs.declared.task.Task.TheVariants as T
 use Rattle.keep_history.specs.Balance.{balances}
 use Rattle.keep_history.specs.Next.{Answered, asks, ends}
 use Rattle.keep_history.specs.Rounds.{prefixes}
+use Rattle.keep_history.specs.Script.{command_of_data}
+use Rattle.keep_history.specs.Tasks.{next, opened}
 use Rattle.keep_history.specs.Workers.{trashes, trash_next, pulls, pull_next, empties, empty_next, taking}
 
 abbrev writable : Device
@@ -234,3 +240,56 @@ empty_fault = refl
 
 empty_full : empty_next 1 (record { removed = 1048576; ended = None }) ≡ ends (O.Emptied 1048576)
 empty_full = refl
+
+-- ---- tasks and lines
+
+next_of_balance : next one_device T.Balance (scanned (device_answered 4 (A.Accepted 1 0) ∷ [])) ≡ ends (O.Balanced 1 1 0 0 0)
+unfolding next
+next_of_balance = refl
+
+next_of_trash_worker : next two_devices (T.TrashWorker 1) [] ≡ asks (Query.Device 1 Q.TrashNext)
+unfolding next
+next_of_trash_worker = refl
+
+next_of_pull_worker : next two_devices (T.PullWorker 1) [] ≡ asks (Query.Device 1 Q.PullNext)
+unfolding next
+next_of_pull_worker = refl
+
+next_of_empty_worker : next two_devices (T.EmptyWorker 1) [] ≡ asks (Query.Device 1 Q.EmptyNext)
+unfolding next
+next_of_empty_worker = refl
+
+opens : opened two_devices (Open.EmptyWorker 1) 9 ≡ Ok (T.EmptyWorker 1)
+unfolding opened
+opens = refl
+
+-- members ascend by their names
+abbrev bare : List ℕ → Members → Data
+bare kind others = object (member (codes "at") (number (unsigned 9)) (put_all others (member (codes "do") (string kind) (member (codes "open") (string (codes "b")) no_members))))
+  where
+    put_all : Members → Members → Members
+    put_all no_members rest = rest
+    put_all (member name d more) rest = member name d (put_all more rest)
+
+abbrev on : ℕ → Members
+on device = member (codes "device") (number (unsigned device)) no_members
+
+balance_line : command_of_data two_devices [] (bare (codes "balance") no_members) ≡ Some (C.Open (codes "b") 9 Open.Balance)
+balance_line = refl
+
+-- a balance names no device
+no_balance_line : command_of_data two_devices [] (bare (codes "balance") (on 1)) ≡ None
+no_balance_line = refl
+
+trash_line : command_of_data two_devices [] (bare (codes "trash_worker") (on 0)) ≡ Some (C.Open (codes "b") 9 (Open.TrashWorker 0))
+trash_line = refl
+
+pull_line : command_of_data two_devices [] (bare (codes "pull_worker") (on 1)) ≡ Some (C.Open (codes "b") 9 (Open.PullWorker 1))
+pull_line = refl
+
+empty_line : command_of_data two_devices [] (bare (codes "empty_worker") (on 1)) ≡ Some (C.Open (codes "b") 9 (Open.EmptyWorker 1))
+empty_line = refl
+
+-- a worker names a device of the configuration
+no_empty_line : command_of_data two_devices [] (bare (codes "empty_worker") (on 2)) ≡ None
+no_empty_line = refl

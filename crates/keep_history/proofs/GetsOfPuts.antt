@@ -1,6 +1,6 @@
 -- The bytes that gets return were put: `told-reads`.
 use Rattle.std.proofs.Common.{◌≡◌, ℕ, zero, suc, ◌+◌, Bool, true, false, List, [], ◌∷◌, ◌++◌, Option, None, Some, IfSome, inl, inr, refl}
-use Rattle.std.specs.Prelude.{⊤, ◌==◌, ◌&&◌, unwrap_or, option_map, if◌then◌else◌, map, slice_index_or, slice_set}
+use Rattle.std.specs.Prelude.{⊤, ◌-◌, length, max, nat_lt, ◌==◌, ◌&&◌, unwrap_or, option_map, if◌then◌else◌, map, slice_index_or, slice_set}
 use Rattle.std.specs.List.{AllByRecursion}
 use Rattle.std.proofs.lemmas.Slice.Eq.{bytes_eq-Decides}
 use Rattle.std.specs.Str.{bytes_eq}
@@ -8,10 +8,13 @@ use Rattle.md5.specs.Md5.{md5}
 use Rattle.keep_spec.specs.Config.{Configuration}
 use Rattle.keep_spec.specs.Lines.{cut, text_of}
 use Rattle.keep_spec.specs.declared.config.Device.{Device}
+use Rattle.keep_event.specs.Store as store
 use Rattle.keep_event.specs.Device as machine
 use Rattle.keep_event.specs.Device.{State}
 use Rattle.keep_event.specs.World.{World, Reply, asked, line, may_fault, stays, device_rules, device_state}
 use Rattle.keep_event.specs.declared.names.Stored.{Stored}
+use Rattle.keep_event.specs.declared.device.DeviceRules.{DeviceRules}
+use Rattle.keep_event.specs.declared.lists.PullItem.{PullItem}
 use Rattle.keep_event.specs.declared.device.DeviceAnswer.TheVariants as A
 use Rattle.keep_event.specs.declared.device.DeviceQuery.{DeviceQuery}
 use Rattle.keep_event.specs.declared.device.DeviceQuery.TheVariants as Q
@@ -29,15 +32,18 @@ use Rattle.keep_history.specs.declared.task.Task.TheVariants as T
 use Rattle.keep_history.specs.declared.task.TaskState.{TaskState}
 use Rattle.keep_history.specs.declared.task.TaskState.TheVariants as S
 use Rattle.keep_history.specs.Effects.{Scene, Standing, Effect, Asked, Made, after_made, answered_by, asked_on, asked_in, command_in, effect_of_line, event_of, events_max, is_failed, with_answer}
+use Rattle.keep_history.specs.Balance.{balances}
 use Rattle.keep_history.specs.Ended.{Begun, begun_of}
 use Rattle.keep_history.specs.Reads.{bytes_put, Read, read_by, read_in, IsAmong, IsOfPut, AreOfPuts, ReadsAreOfPuts}
 use Rattle.keep_history.specs.Run.{at_start}
 use Rattle.keep_history.specs.Next.{Answered, Next, asks, ends, ends_or}
 use Rattle.keep_history.specs.Tasks.{next, walk, on_device, by_all, writes, compare_end, write_end, fetch_end, touch_end, no_end, not_written, not_fetched, not_touched, untrashed, first_found, any_fault}
+use Rattle.keep_history.specs.Workers.{empties, pulls, trashes}
 use Rattle.keep_history.proofs.Held.{HoldAll, BringsAll, all-found, step-all}
 use Rattle.keep_history.proofs.Lines.{AskedHas, Begins, CommandHas, GoesOn, SceneHas, StateHas, both-some, line-gives, line-keeps, some-more}
 use Rattle.keep_history.proofs.Names.{all-more}
 use Rattle.keep_history.proofs.Openings.{IsMade}
+use Rattle.keep_history.proofs.Rounds.{BlockHas, NextHas, balance-asks, empty-asks, pull-asks, trash-asks}
 
 -- ---- lists
 
@@ -68,15 +74,25 @@ module _ (P : List ℕ → Type 0) where
   Fetches hash (An.Device (A.Block bytes)) = (md5 bytes ≡ hash) × P bytes
   Fetches hash _ = ⊤
 
-  -- a get was answered blocks of its digest
+  -- a get was answered blocks of its digest, a pull worker blocks that have P
   abbrev pub AnswerFits : Task → Answer → Type 0
   AnswerFits (T.Get devices hash) a = Fetches hash a
+  AnswerFits (T.PullWorker device) a = BlockHas P a
   AnswerFits _ a = ⊤
+
+  -- a pull worker takes items, and writes blocks that it fetched
+  abbrev pub PullFits : DeviceQuery → Type 0
+  PullFits Q.PullNext = ⊤
+  PullFits (Q.Fetch hash) = ⊤
+  PullFits (Q.Write block token) = P block
+  PullFits _ = ⊥
 
   -- a get asks for its digest, and the blocks that another task brings have P
   abbrev pub QueryFits : Task → Query → Type 0
   QueryFits (T.Get devices hash) (Query.Device d q) = q ≡ Q.Fetch hash
   QueryFits (T.Get devices hash) (Query.Table q) = ⊥
+  QueryFits (T.PullWorker device) (Query.Device d q) = PullFits q
+  QueryFits (T.PullWorker device) (Query.Table q) = ⊥
   QueryFits _ (Query.Device d q) = BringsAll P q
   QueryFits _ (Query.Table q) = ⊤
 
@@ -119,6 +135,10 @@ module _ (P : List ℕ → Type 0) where
   walk-gets devices hash seen (d ∷ ds) [] f = refl
   walk-gets devices hash seen (d ∷ ds) (a ∷ answers) f = fetch-goes devices hash a.answer _ f.0 (walk-gets devices hash (seen ++ a.answer ∷ []) ds answers f.1)
 
+  quiet-fits : (task : Task) (nx : Next) → ((outcome : Outcome) → NextFits task (ends outcome)) → NextHas (QueryFits task) nx → NextFits task nx
+  quiet-fits task (asks q) e h = h
+  quiet-fits task (ends outcome) e h = e outcome
+
   pub next-fits : (c : Configuration) (task : Task) (answers : List Answered) → TaskBrings task → AllByRecursion (λ a. AnswerFits task a.answer) answers → NextFits task (next c task answers)
   unfolding next
   next-fits c (T.Put devices token id block) answers p f =
@@ -131,12 +151,24 @@ module _ (P : List ℕ → Type 0) where
   next-fits c (T.Restart device) (a ∷ answers) p f = tt
   next-fits c (T.Table q) [] p f = tt
   next-fits c (T.Table q) (a ∷ answers) p f = tt
+  next-fits c T.Balance answers p f =
+      quiet-fits T.Balance (balances c answers) (λ o. tt) (balance-asks (QueryFits T.Balance) c tt (λ d n. tt) (λ d n prefix. tt) (λ n after limit. tt) (λ d n lists. tt) answers)
+  next-fits c (T.TrashWorker device) answers p f = quiet-fits (T.TrashWorker device) (trashes device answers) (λ o. tt) (trash-asks (QueryFits (T.TrashWorker device)) device answers tt)
+  next-fits c (T.PullWorker device) answers p f =
+      quiet-fits (T.PullWorker device) (pulls c device answers) (λ o. tt) (pull-asks P (QueryFits (T.PullWorker device)) device tt (λ d hash. tt) (λ bytes r. r) c answers f)
+  next-fits c (T.EmptyWorker device) answers p f = quiet-fits (T.EmptyWorker device) (empties device answers) (λ o. tt) (empty-asks (QueryFits (T.EmptyWorker device)) device answers tt)
 
   -- ---- the world
 
   -- all that devices hold has P
   abbrev WorldHolds : World → Type 0
   WorldHolds w = AllByRecursion (λ (s : State). HoldAll P s.held) w.devices
+
+  pull-brings : (q : DeviceQuery) → PullFits q → BringsAll P q
+  pull-brings Q.PullNext f = tt
+  pull-brings (Q.Fetch hash) f = tt
+  pull-brings (Q.Write block token) f = f
+  pull-brings _ f = absurd f
 
   brings : (task : Task) (d : ℕ) (q : DeviceQuery) → QueryFits task (Query.Device d q) → BringsAll P q
   brings (T.Put devices token id block) d q f = f
@@ -145,6 +177,10 @@ module _ (P : List ℕ → Type 0) where
   brings (T.Untrash devices hash) d q f = f
   brings (T.Restart device) d q f = f
   brings (T.Table t) d q f = f
+  brings T.Balance d q f = f
+  brings (T.TrashWorker device) d q f = f
+  brings (T.PullWorker device) d q f = pull-brings q f
+  brings (T.EmptyWorker device) d q f = f
 
   module _ (reading : ℕ) (w : World) (h : WorldHolds w) where
     device-holds : (d : ℕ) → HoldAll P (device_state d w).held
@@ -167,13 +203,65 @@ module _ (P : List ℕ → Type 0) where
     unfolding machine.fetch
     fetch-fits d hash = let s = device_state d w in fetched-has hash s (machine.replica_of hash s) (all-found P (machine.replica hash) s.held (device-holds d))
 
+    -- a pull worker's answers: no line but a fetch's answers with a block
+    block-of : (hash : List ℕ) (a : Answer) → Fetches hash a → BlockHas P a
+    block-of hash (An.Device (A.Block bytes)) f = f.1
+    block-of hash (An.Device _) f = tt
+    block-of hash (An.Table t) f = tt
+
+    -- an answer without a block
+    abbrev HasNoBlock : machine.Reply → Type 0
+    HasNoBlock r = BlockHas P (An.Device r.answer)
+
+    no-block-if : (b : Bool) (x y : machine.Reply) → HasNoBlock x → HasNoBlock y → HasNoBlock (if b then x else y)
+    no-block-if true x y p q = p
+    no-block-if false x y p q = q
+
+    module _ (d : ℕ) (block : List ℕ) where
+      abbrev rules : DeviceRules
+      rules = device_rules w.config d
+
+      abbrev there : State
+      there = device_state d w
+
+      placed-no-block : (mtime : ℕ) → HasNoBlock (machine.placed rules block mtime there)
+      placed-no-block mtime =
+          no-block-if (nat_lt rules.capacity (machine.used there.held - machine.taken_by (machine.replica_of (md5 block) there) + length block)) (machine.stays (A.Full (machine.used there.held) rules.capacity) there)
+          (record { answer = A.Written mtime; state = machine.with_held (store.put (machine.replica (md5 block)) (store.stored mtime block) there.held) there }) tt tt
+
+      written-no-block : (o : Option Stored) → HasNoBlock (machine.written rules block reading there o)
+      written-no-block None = placed-no-block reading
+      written-no-block (Some r) =
+          let kept : machine.Reply = if bytes_eq (md5 r.bytes) (md5 block) then machine.stays A.Collision there else machine.placed rules block (max r.mtime reading) there in
+          no-block-if (bytes_eq r.bytes block) (machine.renewed (md5 block) reading r A.Written there) kept tt
+          (no-block-if (bytes_eq (md5 r.bytes) (md5 block)) (machine.stays A.Collision there) (machine.placed rules block (max r.mtime reading) there) tt (placed-no-block (max r.mtime reading)))
+
+      write-no-block : HasNoBlock (machine.write rules block reading there)
+      unfolding machine.write
+      write-no-block =
+          no-block-if rules.read_only (machine.stays A.ReadOnly there) (machine.written rules block reading there (machine.replica_of (md5 block) there)) tt (written-no-block (machine.replica_of (md5 block) there))
+
+    pull-no-block : (s : State) (items : List PullItem) → HasNoBlock (machine.pull_first s items)
+    pull-no-block s [] = tt
+    pull-no-block s (item ∷ rest) = tt
+
+    pull-fits : (d : ℕ) (q : DeviceQuery) → PullFits q → BlockHas P (line reading (Query.Device d q) w).answer
+    unfolding machine.pull_next
+    pull-fits d Q.PullNext f = pull-no-block (device_state d w) (device_state d w).pull
+    pull-fits d (Q.Fetch hash) f = block-of hash (line reading (Query.Device d (Q.Fetch hash)) w).answer (fetch-fits d hash)
+    pull-fits d (Q.Write block token) f = write-no-block d block
+    pull-fits d _ f = absurd f
+
     line-fits : (task : Task) (q : Query) → QueryFits task q → AnswerFits task (line reading q w).answer
     line-fits (T.Get devices hash) (Query.Device d q) f = rw f (fetch-fits d hash)
     line-fits (T.Get devices hash) (Query.Table q) f = absurd f
+    line-fits (T.PullWorker device) (Query.Device d q) f = pull-fits d q f
+    line-fits (T.PullWorker device) (Query.Table q) f = absurd f
     line-fits _ q f = tt
 
     fault-fits : (task : Task) → AnswerFits task (An.Device A.StoreFault)
     fault-fits (T.Get devices hash) = tt
+    fault-fits (T.PullWorker device) = tt
     fault-fits _ = tt
 
     either-holds : (b : Bool) (x y : Reply) → WorldHolds x.world → WorldHolds y.world → WorldHolds (if b then x else y).world
@@ -272,6 +360,10 @@ module _ (P : List ℕ → Type 0) where
     opening-brings (Open.Trash token collection trash_at delete_at) p = begun _ tt
     opening-brings (Open.Restore token collection) p = begun _ tt
     opening-brings Open.Sweep p = begun _ tt
+    opening-brings Open.Balance p = begun _ tt
+    opening-brings (Open.TrashWorker device) p = begun _ tt
+    opening-brings (Open.PullWorker device) p = begun _ tt
+    opening-brings (Open.EmptyWorker device) p = begun _ tt
 
 -- ---- more that was put
 
@@ -287,8 +379,13 @@ module _ (P Q : List ℕ → Type 0) (more : (bytes : List ℕ) → P bytes → 
   more-fetched hash (An.Device (A.Block bytes)) h = (h.0, more bytes h.1)
   more-fetched hash _ h = tt
 
+  more-block : (a : Answer) → BlockHas P a → BlockHas Q a
+  more-block (An.Device (A.Block bytes)) h = more bytes h
+  more-block _ h = tt
+
   more-answer : (task : Task) (a : Answer) → AnswerFits P task a → AnswerFits Q task a
   more-answer (T.Get devices hash) a h = more-fetched hash a h
+  more-answer (T.PullWorker device) a h = more-block a h
   more-answer _ a h = tt
 
   more-standing : (s : Standing) → StandingBrings P s → StandingBrings Q s

@@ -40,7 +40,7 @@ use Rattle.keep_history.specs.Effects.{Effect, Scene, Standing, answered_by, com
 use Rattle.keep_history.specs.Next.{Answered, Next, asks, ends, ends_or}
 use Rattle.keep_history.specs.Tasks.{empty_locator, opened, permitted_block, writable, next, walk, on_device, by_all, writes, is_read_only, compare_end, write_end, fetch_end, not_written, not_fetched}
 use Rattle.keep_history.specs.Whole.{AreEndedWell, GoodTasksEndWell, HasRoom, IsFairGet, IsFairPut, IsGoodGet, IsGoodPut, IsRead, IsStored, OpeningEndsWell, OpensWell, command_at, is_among}
-use Rattle.keep_history.proofs.Collisions.{CollidesNext, IsWorldOf, SceneTakes, new-world, next-collides, rules-change, scene-takes, takes-changes}
+use Rattle.keep_history.proofs.Collisions.{CollidesNext, IsWorldOf, SceneTakes, new-world, put-collides, rules-change, scene-takes, takes-changes}
 use Rattle.keep_history.proofs.Follows.{IsGoodNext, at-same, goes-well}
 use Rattle.keep_history.proofs.Lines.{both-some, some-more}
 use Rattle.keep_history.proofs.GetsOfPuts.{NextFits, next-fits}
@@ -386,7 +386,7 @@ module _ (d : ℕ) where
       let task = T.Put f.devices f.token f.id f.block in
       let e' : next c task s.answers ≡ asks q = ap (λ t. next c t s.answers) (sym f.task) ∙ e in
       let same : NextFits (λ b. b ≡ f.block) task (asks q) = subst (NextFits (λ b. b ≡ f.block) task) e' (next-fits (λ b. b ≡ f.block) c task s.answers refl (any-answers s.answers)) in
-      let collides : CollidesNext c a (asks q) (next c task (s.answers ++ a ∷ [])) = subst (λ x. CollidesNext c a x (next c task (s.answers ++ a ∷ []))) e' (next-collides c a task s.answers f.takes) in
+      let collides : CollidesNext c a (asks q) (next c task (s.answers ++ a ∷ [])) = subst (λ x. CollidesNext c a x (next c task (s.answers ++ a ∷ []))) e' (put-collides c a f.devices f.token f.id f.block s.answers f.takes) in
       let ro : IfSome (block_on q) (λ b. is_read_only c b.device ≡ false) = some-more _ _ (block_on q) (λ b k. k.0) collides in
       record {
         devices = f.devices;

@@ -1,6 +1,5 @@
 pub mod Asking
 pub mod Collisions
-pub mod Configured
 pub mod Example
 pub mod Finished
 pub mod Follows
@@ -10,4 +9,5 @@ pub mod Held
 pub mod Lines
 pub mod Names
 pub mod Openings
+pub mod Rounds
 pub mod Scripts

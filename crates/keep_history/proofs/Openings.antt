@@ -33,6 +33,10 @@ module _ (P : Task → Type 0) where
   IsMade c (Open.Trash token collection trash_at delete_at) = P (T.Table (TQ.SetTrash token (collection_number c collection) trash_at delete_at))
   IsMade c (Open.Restore token collection) = P (T.Table (TQ.Restore token (collection_number c collection)))
   IsMade c Open.Sweep = P (T.Table TQ.Sweep)
+  IsMade c Open.Balance = P T.Balance
+  IsMade c (Open.TrashWorker device) = P (T.TrashWorker device)
+  IsMade c (Open.PullWorker device) = P (T.PullWorker device)
+  IsMade c (Open.EmptyWorker device) = P (T.EmptyWorker device)
 
   abbrev pub OkHas : Result Task Outcome → Type 0
   OkHas (Ok task) = P task
@@ -85,3 +89,7 @@ module _ (P : Task → Type 0) where
   opened-has c (Open.Trash token collection trash_at delete_at) reading p = p
   opened-has c (Open.Restore token collection) reading p = p
   opened-has c Open.Sweep reading p = p
+  opened-has c Open.Balance reading p = p
+  opened-has c (Open.TrashWorker device) reading p = p
+  opened-has c (Open.PullWorker device) reading p = p
+  opened-has c (Open.EmptyWorker device) reading p = p

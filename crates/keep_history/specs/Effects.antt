@@ -101,9 +101,9 @@ asked_on (suc turns) c failed reading n w s (asks query) =
 abbrev pub step_turns : ℕ
 step_turns = 1
 
--- a task asks each of at most 64 devices twice, so none asks more often
+-- A finish asks until its task ends or no event is left for it: a task asks as often as it needs, and a turn more than there may be events is never the last.
 abbrev pub finish_turns : ℕ
-finish_turns = 128
+finish_turns = 1099511627777
 
 -- ---- lines
 

@@ -147,9 +147,9 @@ untrash_of_data c d =
     (digest_at (codes "digest") d))
     (server_at c d)) (text_at (codes "token") d)
 
--- `open`, `at`, `do` and `device`
-abbrev pub restart_of_data : Configuration → Data → Option Opening
-restart_of_data c d = option_and_then (λ device. if has_members 4 d then Some (O.Restart device) else None) (device_at c d)
+-- the device of `open`, `at`, `do` and `device`
+abbrev pub device_of_data : Configuration → Data → Option ℕ
+device_of_data c d = option_and_then (λ device. if has_members 4 d then Some device else None) (device_at c d)
 
 -- MANIFESTS
 abbrev pub ended_text : Option Seen → Option (List ℕ)
@@ -242,6 +242,9 @@ restore_of_data d =
 abbrev pub sweep_of_data : Data → Option Opening
 sweep_of_data d = if has_members 3 d then Some O.Sweep else None
 
+abbrev pub balance_of_data : Data → Option Opening
+balance_of_data d = if has_members 3 d then Some O.Balance else None
+
 -- the kinds that ask the table
 abbrev pub table_opening_of_kind : Named Seen → List ℕ → Data → Option Opening
 table_opening_of_kind names kind d =
@@ -253,14 +256,23 @@ table_opening_of_kind names kind d =
     else if bytes_eq kind (codes "sweep") then sweep_of_data d
     else None
 
+-- the kinds of rounds: a balance, and what is done on one device
+abbrev pub round_opening_of_kind : Configuration → Named Seen → List ℕ → Data → Option Opening
+round_opening_of_kind c names kind d =
+    if bytes_eq kind (codes "balance") then balance_of_data d
+    else if bytes_eq kind (codes "trash_worker") then option_map O.TrashWorker (device_of_data c d)
+    else if bytes_eq kind (codes "pull_worker") then option_map O.PullWorker (device_of_data c d)
+    else if bytes_eq kind (codes "empty_worker") then option_map O.EmptyWorker (device_of_data c d)
+    else if bytes_eq kind (codes "restart") then option_map O.Restart (device_of_data c d)
+    else table_opening_of_kind names kind d
+
 abbrev pub opening_of_kind : Configuration → Named Seen → List ℕ → Data → Option Opening
 opening_of_kind c names kind d =
     if bytes_eq kind (codes "put") then put_of_data c d
     else if bytes_eq kind (codes "get") then get_of_data c names d
     else if bytes_eq kind (codes "touch") then touch_of_data c names d
     else if bytes_eq kind (codes "untrash") then untrash_of_data c d
-    else if bytes_eq kind (codes "restart") then restart_of_data c d
-    else table_opening_of_kind names kind d
+    else round_opening_of_kind c names kind d
 
 -- LINES
 -- a name that no line has opened

@@ -28,6 +28,8 @@ use Rattle.keep_event.specs.declared.device.DeviceAnswer.TheVariants as A
 use Rattle.keep_event.specs.declared.event.Query.{Query}
 use Rattle.keep_event.specs.declared.event.Answer.{Answer}
 use Rattle.keep_event.specs.declared.event.Answer.TheVariants as An
+use Rattle.keep_history.specs.Balance.{balances}
+use Rattle.keep_history.specs.Workers.{trashes, pulls, empties}
 use Rattle.keep_history.specs.Next.{Answered, Next, asks, ends, ends_or}
 use Rattle.keep_history.specs.declared.task.Opening.{Opening}
 use Rattle.keep_history.specs.declared.task.Opening.TheVariants as Open
@@ -65,6 +67,9 @@ NamesWithin c (Open.Get token server locator) = server < length c.servers
 NamesWithin c (Open.Touch token server locator) = server < length c.servers
 NamesWithin c (Open.Untrash token server hash) = server < length c.servers
 NamesWithin c (Open.Restart device) = device < length c.devices
+NamesWithin c (Open.TrashWorker device) = device < length c.devices
+NamesWithin c (Open.PullWorker device) = device < length c.devices
+NamesWithin c (Open.EmptyWorker device) = device < length c.devices
 NamesWithin c other = ⊤
 
 abbrev pub has_other_digest : List ℕ → Option (List ℕ) → Bool
@@ -152,6 +157,10 @@ opened c (Open.Read token collection version) reading = asks_table (TQ.Read toke
 opened c (Open.Trash token collection trash_at delete_at) reading = asks_table (TQ.SetTrash token (collection_number c collection) trash_at delete_at)
 opened c (Open.Restore token collection) reading = asks_table (TQ.Restore token (collection_number c collection))
 opened c Open.Sweep reading = asks_table TQ.Sweep
+opened c Open.Balance reading = Ok T.Balance
+opened c (Open.TrashWorker device) reading = Ok (T.TrashWorker device)
+opened c (Open.PullWorker device) reading = Ok (T.PullWorker device)
+opened c (Open.EmptyWorker device) reading = Ok (T.EmptyWorker device)
 
 -- QUERIES AND ENDS
 -- A walk over devices: each in turn is asked the query, until an answer ends the task. After the last, all that they answered says how the task goes on with the answers that are left.
@@ -323,3 +332,7 @@ next c (T.Touch devices token id hash text) answers = walk (Q.Touch hash (Some i
 next c (T.Untrash devices hash) answers = walk (Q.Untrash hash) (on_device no_end) (by_all untrashed) [] devices answers
 next c (T.Restart device) answers = one (Query.Device device Q.Restart) restarted answers
 next c (T.Table q) answers = one (Query.Table q) (table_end_of c q) answers
+next c T.Balance answers = balances c answers
+next c (T.TrashWorker device) answers = trashes device answers
+next c (T.PullWorker device) answers = pulls c device answers
+next c (T.EmptyWorker device) answers = empties device answers

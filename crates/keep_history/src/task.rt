@@ -65,6 +65,20 @@ pub enum Opening {
     },
     /// Removes the versions and collections whose time has come.
     Sweep,
+    /// Begins a round: gathers what devices hold and what collections want, and sends each device its lists of blocks to trash and to pull.
+    Balance,
+    /// Works the list of blocks to trash of a device off.
+    TrashWorker {
+        device: u32,
+    },
+    /// Works the list of blocks to pull of a device off.
+    PullWorker {
+        device: u32,
+    },
+    /// Removes the trashed copies of a device whose deadline has passed.
+    EmptyWorker {
+        device: u32,
+    },
 }
 
 /// A task that its opening did not end, with what its queries need. `devices` are those that it asks, by their numbers in the configuration, in the order of
@@ -103,6 +117,20 @@ pub enum Task {
     /// Asks the table once.
     Table {
         query: TableQuery,
+    },
+    /// Begins a round, clears each device, takes each device's pages, scans the table to its end, and sends each device its lists.
+    Balance,
+    /// Takes items from the device's trash list until it is empty, 1,048,576 at most.
+    TrashWorker {
+        device: u32,
+    },
+    /// Takes items from the device's pull list until it is empty, 1,048,576 at most; fetches the block of each from a source, and writes it on the device.
+    PullWorker {
+        device: u32,
+    },
+    /// Removes trashed copies of the device until none is due, 1,048,576 at most.
+    EmptyWorker {
+        device: u32,
     },
 }
 
