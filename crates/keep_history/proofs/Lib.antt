@@ -4,6 +4,7 @@ pub mod Example
 pub mod Finished
 pub mod Follows
 pub mod GetsOfPuts
+pub mod Going
 pub mod GoodTasks
 pub mod Held
 pub mod Lines

@@ -1,5 +1,5 @@
 -- What a task does next, and what it is answered. This is the project's own rule.
-use Rattle.std.specs.Prelude.{ℕ, List, [], ◌∷◌, Option, None, Some}
+use Rattle.std.specs.Prelude.{◌≡◌, ℕ, List, [], ◌∷◌, ◌++◌, Option, None, Some}
 use Rattle.keep_event.specs.declared.event.Query.{Query}
 use Rattle.keep_event.specs.declared.event.Answer.{Answer}
 use Rattle.keep_history.specs.declared.task.Outcome.{Outcome}
@@ -33,3 +33,7 @@ stands_after next after s (a ∷ answers) = stands_after next after (moved after
 -- what it asks next there, or how it has ended
 abbrev pub goes_on : {S : Type 0} → (S → Next) → (Query → Answered → S → S) → S → List Answered → Next
 goes_on next after s answers = next (stands_after next after s answers)
+
+-- a task that goes by `by` stands at `s` after its answers: whatever it is answered then, it goes on from there
+abbrev pub GoesFrom : {S : Type 0} → (S → Next) → (Query → Answered → S → S) → S → (List Answered → Next) → List Answered → Type 0
+GoesFrom next after s by answers = (more : List Answered) → by (answers ++ more) ≡ goes_on next after s more
