@@ -10,5 +10,6 @@ pub mod Held
 pub mod Lines
 pub mod Names
 pub mod Openings
+pub mod Ordered
 pub mod Rounds
 pub mod Scripts

@@ -5,6 +5,7 @@ pub mod Ended
 pub mod Finished
 pub mod Names
 pub mod Next
+pub mod Ordered
 pub mod Printed
 pub mod Reads
 pub mod Rounds
