@@ -13,7 +13,19 @@ AsksTable (Open.Get token server locator) = ⊥
 AsksTable (Open.Touch token server locator) = ⊥
 AsksTable (Open.Untrash token server hash) = ⊥
 AsksTable (Open.Restart device) = ⊥
+AsksTable Open.Balance = ⊥
+AsksTable (Open.TrashWorker device) = ⊥
+AsksTable (Open.PullWorker device) = ⊥
+AsksTable (Open.EmptyWorker device) = ⊥
 AsksTable other = ⊤
+
+-- an opening of a client's task, or of a restart: neither a balance nor a worker
+abbrev pub IsOfClient : Opening → Type 0
+IsOfClient Open.Balance = ⊥
+IsOfClient (Open.TrashWorker device) = ⊥
+IsOfClient (Open.PullWorker device) = ⊥
+IsOfClient (Open.EmptyWorker device) = ⊥
+IsOfClient other = ⊤
 
 -- the task that is made of what an opening goes on with, or the end at once
 abbrev pub made : {X : Type 0} → (X → Task) → Result X Outcome → Result Task Outcome

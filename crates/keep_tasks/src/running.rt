@@ -1,7 +1,8 @@
-// A task of any kind, and its opening.
+// A client's task of any kind, or a restart, and its opening.
 ghost use Rattle.std.specs.Prelude.{◌≡◌, IfOk};
 ghost use Rattle.keep_history.specs.Script.{HasTimes};
 ghost use Rattle.keep_history.specs.Tasks.{opened, NamesWithin};
+ghost use Rattle.keep_tasks.specs.Openings.{IsOfClient};
 ghost use Rattle.keep_tasks.specs.Running.{as_any};
 ghost use Rattle.keep_tasks.specs.Steps.{IsOpened, IsReady};
 
@@ -19,7 +20,7 @@ use keep_history::{Opening, Outcome};
 use keep_spec::NoMemory;
 use std::alloc::Global;
 
-/// A task of any kind of opening, between two queries.
+/// A client's task of any kind, or a restart, between two queries.
 #[derive(Drop)]
 pub enum Running {
     Put(PutTask),
@@ -88,14 +89,15 @@ fn any_kind<T, F: FnOnce(T) -> Running>(opened: Opened<T>, kind: F) -> Opened<Ru
     }
 }
 
-/// Opens a task of the kind that an opening names, at a reading (nanoseconds since 1970), or ends at once. Nothing is asked. The server or device that the
-/// opening names is one of the configuration, and the times of a trash are readings. The only error is NoMemory.
+/// Opens a task of the kind that an opening names, at a reading (nanoseconds since 1970), or ends at once. Nothing is asked. The opening is neither a balance
+/// nor a worker; the server or device that it names is one of the configuration, and the times of a trash are readings. The only error is NoMemory.
 pub fn open_task(
     alloc: Global,
     config: &Config,
     opening: Opening,
     reading: u64,
 ) -> Result<Opened<Running>, NoMemory>
+    requires kind { IsOfClient opening }
     requires within { NamesWithin config.now opening }
     requires times { HasTimes opening }
     ensures opened { IfOk result (λ o. IsOpened (opened config.now opening reading) o (λ t task.
