@@ -1,0 +1,4 @@
+mod Empties
+mod Moving
+mod Pulls
+mod Trashes

@@ -1,0 +1,3 @@
+pub mod Empties
+pub mod Pulls
+pub mod Trashes
