@@ -17,3 +17,7 @@ shown round started pages scans = record {
   pages = map page_of (reverse pages);
   scans = map scan_of (reverse scans);
 }
+
+-- the same with other scans
+abbrev pub with_scans : List Scan → Gathered → Gathered
+with_scans scans g = record { round = g.round; started = g.started; pages = g.pages; scans = scans }

@@ -38,9 +38,9 @@ impl Model for Gather {
 }
 
 impl Gather {
-    ghost use Rattle.std.specs.Prelude.{◌≡◌, IfOk, OnErr, OnOk, false, map, reverse};
-    ghost use Rattle.keep_event.specs.Plan.{nothing_gathered, with_page, with_scan, has_ended, reached};
-    ghost use Rattle.keep_gather.specs.Shown.{page_of, scan_of};
+    ghost use Rattle.std.specs.Prelude.{◌≡◌, ◌∷◌, IfOk, List, OnErr, OnOk, false, map, reverse};
+    ghost use Rattle.keep_event.specs.Plan.{Scan, nothing_gathered, with_page, with_scan, has_ended, reached};
+    ghost use Rattle.keep_gather.specs.Shown.{page_of, scan_of, with_scans};
     ghost use Rattle.keep_gather.specs.Scanned.{scanned_by};
 
     /// A round of which nothing is gathered yet. `started` is the reading at which it began, in nanoseconds since 1970. Takes no memory.
@@ -89,6 +89,13 @@ impl Gather {
             Ok(()) => Ok(self.state()),
             Err(_) => Err(NoMemory),
         }
+    }
+
+    /// Lets the rows of the latest scan go, so that it can be taken again.
+    pub fn untake_scan(&mut self)
+        ensures { (s : Scan) → (earlier : List Scan) → self.old.scans ≡ s ∷ earlier → self.new ≡ with_scans earlier self.old }
+    {
+        let _ = self.scans.pop();
     }
 
     /// Whether the scans have come to the end. Then no other is taken.
