@@ -1,0 +1,10 @@
+//! The balance task: a round as a task, which asks one query a step.
+#![tactic(auto)]
+
+mod answers;
+mod copies;
+mod prefixes;
+mod task;
+mod totals;
+
+pub use task::BalanceTask;
