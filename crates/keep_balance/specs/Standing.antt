@@ -3,7 +3,7 @@ use Rattle.std.specs.Prelude.{◌≡◌, ◌≤◌, ◌<◌, ◌+◌, ℕ, List,
 use Rattle.keep_spec.specs.Config.{Configuration}
 use Rattle.keep_spec.specs.Members.{numbers_from}
 use Rattle.keep_spec.specs.Times.{threshold}
-use Rattle.keep_event.specs.Plan.{Gathered, planned, planned_lists, lost, reached, has_ended}
+use Rattle.keep_event.specs.Plan.{Gathered, nothing_gathered, planned, planned_lists, lost, reached, has_ended}
 use Rattle.keep_event.specs.declared.device.DeviceQuery.TheVariants as DQ
 use Rattle.keep_event.specs.declared.table.TableQuery.TheVariants as TQ
 use Rattle.keep_event.specs.declared.event.Query.{Query}
@@ -15,6 +15,7 @@ use Rattle.keep_history.specs.Next.{Answered, Next, asks, ends, GoesFrom}
 use Rattle.keep_history.specs.Rounds.{Round, prefixes}
 use Rattle.keep_history.specs.Balance.{Balancing, new_balance, balance_next, balance_after, all_gathered, start_of, page_on, to_clear, to_page, to_accept, round_refused}
 use Rattle.keep_history.specs.declared.task.Outcome.{Outcome}
+use Rattle.keep_history.specs.declared.task.Outcome.TheVariants as O
 use Rattle.keep_balance.specs.declared.task.BalanceTask.{BalanceTask}
 use Rattle.keep_balance.specs.declared.task.Place.{Place}
 use Rattle.keep_balance.specs.declared.task.Place.TheVariants.{Begin, Clear, Page, Scan, Accept}
@@ -102,17 +103,34 @@ pub record IsAccepting (t : BalanceTask) (d : ℕ) (s : Balancing) : Type 0 wher
   pub stale : t.stale ≡ count_by (λ refused. refused) s.refusals
   pub few : t.stale ≤ d
 
--- a plan of what was gathered, of which the first device's lists are asked next
-pub record IsPlanned (c : Configuration) (g : Gathered) (t : BalanceTask) : Type 0 where
-  pub round : t.gather.round ≡ g.round
+-- what a round gathered is planned: the lists of all devices are left, and what was gathered is let go
+pub record HasPlan (old new : BalanceTask) : Type 0 where
+  pub lists : reverse new.left.items ≡ planned_lists old.config old.gather
+  pub new_is : new ≡ record old {
+    gather = nothing_gathered old.gather.round old.gather.started;
+    left = new.left;
+    trash = sum_by (λ lists. length lists.trash) (planned_lists old.config old.gather);
+    pull = sum_by (λ lists. length lists.pull) (planned_lists old.config old.gather);
+    lost = length (lost old.config old.gather);
+    stale = 0;
+  }
+
+-- a device is asked to take the first of the lists that are left
+pub record IsHanded (d : ℕ) (old new : BalanceTask) : Type 0 where
   pub first : Lists
-  pub lists : planned_lists c g ≡ first ∷ reverse t.left.items
-  pub query : t.query ≡ Q.Device 0 (DQ.Accept g.round first)
-  pub place : t.place ≡ Accept 0
-  pub trash : t.trash ≡ sum_by (λ lists. length lists.trash) (planned_lists c g)
-  pub pull : t.pull ≡ sum_by (λ lists. length lists.pull) (planned_lists c g)
-  pub lost : t.lost ≡ length (lost c g)
-  pub stale : t.stale ≡ 0
+  pub lists : reverse old.left.items ≡ first ∷ reverse new.left.items
+  pub new_is : new ≡ record old { place = Accept d; query = Q.Device d (DQ.Accept old.gather.round first); left = new.left }
+
+-- it is asked so, or where no lists are left the round has ended
+abbrev pub HandsOn : ℕ → BalanceTask → BalanceTask → Option Outcome → Type 0
+HandsOn d old new (Some outcome) = (old.left.items ≡ []) × (new.query ≡ old.query) × (outcome ≡ O.Balanced old.gather.round old.trash old.pull old.lost old.stale)
+HandsOn d old new None = IsHanded d old new
+
+-- it is planned, and the first device is asked to take its lists
+pub record IsPlanned (old new : BalanceTask) (end : Option Outcome) : Type 0 where
+  pub with_plan : BalanceTask
+  pub planned : HasPlan old with_plan
+  pub handed : HandsOn 0 with_plan new end
 
 -- ---- the task
 

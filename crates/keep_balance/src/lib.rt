@@ -3,6 +3,7 @@
 
 mod answers;
 mod copies;
+mod planning;
 mod prefixes;
 mod task;
 mod totals;
