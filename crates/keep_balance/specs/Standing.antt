@@ -1,9 +1,9 @@
 -- Where a balance task stands after its answers, as its fields show it. For private clauses.
-use Rattle.std.specs.Prelude.{◌≡◌, ◌≤◌, ◌<◌, ◌+◌, ℕ, List, [], ◌∷◌, ◌++◌, length, map, flat_map, drop, reverse, count_by, sum_by, Bool, true, false, Option, None, Some}
+use Rattle.std.specs.Prelude.{◌≡◌, ◌≤◌, ◌+◌, ℕ, List, [], ◌∷◌, ◌++◌, length, map, flat_map, drop, reverse, count_by, sum_by, Bool, true, false, Option, None, Some}
 use Rattle.keep_spec.specs.Config.{Configuration}
 use Rattle.keep_spec.specs.Members.{numbers_from}
 use Rattle.keep_spec.specs.Times.{threshold}
-use Rattle.keep_event.specs.Plan.{Gathered, nothing_gathered, planned, planned_lists, lost, reached, has_ended}
+use Rattle.keep_event.specs.Plan.{Gathered, nothing_gathered, planned, planned_lists, lost, reached, has_ended, last_revision, with_scan}
 use Rattle.keep_event.specs.declared.device.DeviceQuery.TheVariants as DQ
 use Rattle.keep_event.specs.declared.table.TableQuery.TheVariants as TQ
 use Rattle.keep_event.specs.declared.event.Query.{Query}
@@ -11,7 +11,8 @@ use Rattle.keep_event.specs.declared.event.Query.TheVariants as Q
 use Rattle.keep_event.specs.declared.event.Answer.{Answer}
 use Rattle.keep_event.specs.declared.event.Answer.TheVariants as A
 use Rattle.keep_event.specs.declared.lists.Lists.{Lists}
-use Rattle.keep_history.specs.Next.{Answered, Next, asks, ends, GoesFrom}
+use Rattle.keep_event.specs.declared.table.ScanRow.{ScanRow}
+use Rattle.keep_history.specs.Next.{Answered, Next, ends, GoesFrom}
 use Rattle.keep_history.specs.Rounds.{Round, prefixes}
 use Rattle.keep_history.specs.Balance.{Balancing, new_balance, balance_next, balance_after, all_gathered, start_of, page_on, to_clear, to_page, to_accept, round_refused}
 use Rattle.keep_history.specs.declared.task.Outcome.{Outcome}
@@ -103,6 +104,32 @@ pub record IsAccepting (t : BalanceTask) (d : ℕ) (s : Balancing) : Type 0 wher
   pub stale : t.stale ≡ count_by (λ refused. refused) s.refusals
   pub few : t.stale ≤ d
 
+-- all pages and rows are gathered
+pub record IsGathered (t : BalanceTask) (s : Balancing) : Type 0 where
+  pub texts : t.prefixes.items ≡ prefixes t.config.index_digits
+  pub gathers : Gathers t.gather t.cleared_at s
+  pub cleared : to_clear t.config s.round ≡ []
+  pub paged : to_page t.config s.round ≡ []
+  pub scanned : has_ended s.round.scans ≡ true
+
+-- it is planned, and each device from k on is still to take its lists
+pub record IsHanding (t : BalanceTask) (k : ℕ) (s : Balancing) : Type 0 where
+  pub texts : t.prefixes.items ≡ prefixes t.config.index_digits
+  pub number : s.number ≡ Some t.gather.round
+  pub still : s.ended ≡ None
+  pub cleared : to_clear t.config s.round ≡ []
+  pub paged : to_page t.config s.round ≡ []
+  pub scanned : has_ended s.round.scans ≡ true
+  pub left : ℕ
+  pub all : k + left ≡ length t.config.devices
+  pub missing : to_accept t.config s.refusals ≡ numbers_from k left
+  pub lists : reverse t.left.items ≡ map (lists_for t.config t.gather.round s.round) (numbers_from k left)
+  pub trash : t.trash ≡ sum_by (λ lists. length lists.trash) (planned_lists t.config (all_gathered t.gather.round s.round))
+  pub pull : t.pull ≡ sum_by (λ lists. length lists.pull) (planned_lists t.config (all_gathered t.gather.round s.round))
+  pub lost : t.lost ≡ length (lost t.config (all_gathered t.gather.round s.round))
+  pub stale : t.stale ≡ count_by (λ refused. refused) s.refusals
+  pub few : t.stale ≤ k
+
 -- what a round gathered is planned: the lists of all devices are left, and what was gathered is let go
 pub record HasPlan (old new : BalanceTask) : Type 0 where
   pub lists : reverse new.left.items ≡ planned_lists old.config old.gather
@@ -146,10 +173,24 @@ pub record Shows (t : BalanceTask) (s : Balancing) : Type 0 where
   pub texts : t.prefixes.items ≡ prefixes t.config.index_digits
   pub at : ShowsAt t.place t s
 
--- after an answer it has ended so, or stands there
+-- it has ended as one that stands there has, or stands there
+abbrev pub IsAt : BalanceTask → Balancing → BalanceTask → Option Outcome → Type 0
+IsAt old s new (Some outcome) = (balance_next old.config s ≡ ends outcome) × (new.query ≡ old.query)
+IsAt old s new None = Shows new s
+
+-- so after an answer
 abbrev pub IsAfter : BalanceTask → Answered → Balancing → BalanceTask → Option Outcome → Type 0
-IsAfter old a s new (Some outcome) = (balance_next old.config (balance_after old.query a s) ≡ ends outcome) × (new.query ≡ old.query)
-IsAfter old a s new None = Shows new (balance_after old.query a s)
+IsAfter old a s new end = IsAt old (balance_after old.query a s) new end
+
+-- the task with rows more
+abbrev pub with_rows : List ScanRow → Bool → BalanceTask → BalanceTask
+with_rows rows last t = record t { gather = with_scan (record { after = reached t.gather.scans; rows = rows; last = last }) t.gather }
+
+-- after the last rows it is planned, after others the next are asked for
+abbrev pub IsRead : Bool → List ScanRow → BalanceTask → BalanceTask → Option Outcome → Type 0
+IsRead true rows old new end = IsPlanned (with_rows rows true old) new end
+IsRead false rows old new end =
+    (end ≡ None) × (new ≡ record (with_rows rows false old) { query = Q.Table (TQ.Scan old.gather.round (last_revision (reached old.gather.scans) rows) old.config.scan_limit) })
 
 -- a task that goes by `next` stands after its answers where this one does
 pub record Stands (t : BalanceTask) (next : List Answered → Next) (answers : List Answered) : Type 0 where

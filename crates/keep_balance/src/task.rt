@@ -86,7 +86,7 @@ impl BalanceTask {
         Ok(Some((place, Query::Device(device, query))))
     }
 
-    fn scan_query(&self) -> Query
+    pub(crate) fn scan_query(&self) -> Query
         ensures { result ≡ Q.Table (TQ.Scan self.now.gather.round (reached self.now.gather.scans) self.now.config.scan_limit) }
     {
         Query::Table(TableQuery::Scan {
