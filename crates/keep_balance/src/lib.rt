@@ -3,6 +3,7 @@
 
 mod answers;
 mod copies;
+mod gathering;
 mod planning;
 mod prefixes;
 mod task;

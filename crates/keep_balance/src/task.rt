@@ -54,7 +54,7 @@ pub struct BalanceTask {
     pub(crate) ended: bool,
 }
 
-fn clear_query(round: u64, device: u32) -> Query
+pub(crate) fn clear_query(round: u64, device: u32) -> Query
     ensures { result ≡ Q.Device device (DQ.Clear round) }
 {
     Query::Device(device, DeviceQuery::Clear { round })
@@ -69,7 +69,11 @@ impl BalanceTask {
     ghost use Rattle.keep_balance.specs.declared.task.Place.TheVariants as P;
 
     // The page of a device by the number of its prefix, if there is one.
-    fn page(&self, device: u32, prefix: usize) -> Result<Option<(Place, Query)>, NoMemory>
+    pub(crate) fn page(
+        &self,
+        device: u32,
+        prefix: usize,
+    ) -> Result<Option<(Place, Query)>, NoMemory>
         ensures { IfOk result (λ o. o ≡ option_map (λ text. (P.Page device (prefix + 1), Q.Device device (DQ.Page self.now.gather.round text))) (slice_get self.now.prefixes.items prefix)) }
     {
         let Some(text) = self.prefixes.as_slice().get(prefix) else {
