@@ -1,4 +1,4 @@
--- A round from its last rows on: rows that were taken, `rows-read` and `rows-disordered`; the plan of what was gathered, `planned-ends`; lists that are handed on, `handed` and `all-handed`; and what a device answers to its lists, `accepted-hands`, `refused-hands` and `accept-idle`. `few-devices` is of a configuration.
+-- A round from its last rows on: rows that were kept, `rows-read`; the plan of what was gathered, `planned-ends`; lists that are handed on, `handed` and `all-handed`; and what a device answers to its lists, `accepted-hands` and `refused-hands`. `few-devices` is of a configuration.
 use Rattle.std.proofs.Common.{◌≡◌, ◌≤◌, ◌+◌, ℕ, zero, suc, Bool, true, false, if◌then◌else◌, List, [], ◌∷◌, length, map, nat_le, drop, reverse, count_by, sum_by, Option, None, Some, refl, sym, ◌∙◌, ap, subst, arith}
 use Rattle.std.specs.List.{list_all}
 use Rattle.std.proofs.lemmas.Bool.{and_parts, eq-eqb, leb-true}
@@ -11,7 +11,6 @@ use Rattle.keep_event.specs.declared.device.DeviceQuery.TheVariants as DQ
 use Rattle.keep_event.specs.declared.device.DeviceAnswer.{DeviceAnswer}
 use Rattle.keep_event.specs.declared.device.DeviceAnswer.TheVariants as D
 use Rattle.keep_event.specs.declared.table.TableQuery.TheVariants as TQ
-use Rattle.keep_event.specs.declared.table.TableAnswer.{TableAnswer}
 use Rattle.keep_event.specs.declared.table.TableAnswer.TheVariants as T
 use Rattle.keep_event.specs.declared.table.ScanRow.{ScanRow}
 use Rattle.keep_event.specs.declared.event.Query.TheVariants as Q
@@ -19,7 +18,7 @@ use Rattle.keep_event.specs.declared.event.Answer.TheVariants as A
 use Rattle.keep_event.specs.declared.lists.Lists.{Lists}
 use Rattle.keep_history.specs.Next.{ends, ends_or}
 use Rattle.keep_history.specs.Rounds.{Round, with_scan}
-use Rattle.keep_history.specs.Balance.{Balancing, balance_next, balance_after, balanced, to_clear, to_page, to_accept, round_next, clear_next, page_next, scan_next, accept_next, round_after, refusals_after, balance_end, disordered}
+use Rattle.keep_history.specs.Balance.{Balancing, balance_next, balance_after, balanced, to_clear, to_page, to_accept, round_next, clear_next, page_next, scan_next, accept_next, round_after, refusals_after, disordered}
 use Rattle.keep_history.specs.declared.task.Outcome.{Outcome}
 use Rattle.keep_history.specs.declared.task.Outcome.TheVariants as O
 use Rattle.keep_balance.specs.Standing.{given, lists_for, Gathers, HandsOn, HasPlan, IsAccepting, IsAfter, IsAt, IsGathered, IsHanding, IsPlanned, IsRead, IsScanning, Shows, ShowsAt, with_rows}
@@ -173,17 +172,6 @@ module _ (old : BalanceTask) (s : Balancing) (rows : List ScanRow) (last : Bool)
 pub scanning : (t : BalanceTask) (s : Balancing) → Shows t s → t.place ≡ Scan → IsScanning t s
 scanning t s h placed = subst (λ p. ShowsAt p t s) placed h.at
 
--- a task that scans has taken no last rows
-pub not-scanned : (t : BalanceTask) (s : Balancing) → IsScanning t s → has_ended t.gather.scans ≡ true → ⊥
-not-scanned t s h scanned = absurd (cc (sym (ap (λ g. has_ended g.scans) h.gathers.gather) ∙ scanned, h.more))
-
--- rows whose tick isn't above those of the clears end the round
-pub rows-disordered : (t : BalanceTask) (s : Balancing) (rows : List ScanRow) (last : Bool) (tick : ℕ) (outcome : Outcome) → IsScanning t s → disordered t.cleared_at tick ≡ Some outcome
-    → IsAfter t (given tick (A.Table (T.Rows rows last))) s t (Some outcome)
-rows-disordered t s rows last tick outcome h e =
-    let to : Balancing = with_rows_of rows last (disordered t.cleared_at tick) s in
-    (ap (balance_next t.config) (rows-take t s rows last tick h) ∙ ap (λ o. ends_or o (round_next t.config to.number to.round to.refusals)) e, refl)
-
 -- rows in order are kept
 pub rows-read : (old new : BalanceTask) (s : Balancing) (rows : List ScanRow) (last : Bool) (tick : ℕ) (end : Option Outcome) → Shows old s → old.place ≡ Scan → disordered old.cleared_at tick ≡ None
     → IsRead last rows old new end → IsAfter old (given tick (A.Table (T.Rows rows last))) s new end
@@ -204,30 +192,6 @@ rows-read old new s rows last tick end shows placed ordered read =
         subst (λ o. IsAt old (with_rows_of rows false None s) new o) (sym read.0)
         (subst (λ t. Shows t (with_rows_of rows false None s)) (sym read.1)
         (record { texts = shows.texts; at = subst (λ p. ShowsAt p to (with_rows_of rows false None s)) (sym placed) at }))
-
--- what isn't rows changes nothing
-module _ (answer : TableAnswer) (never : (rows : List ScanRow) (last : Bool) → answer ≡ T.Rows rows last → ⊥) where
-  no-rows : (n : Option ℕ) (number after limit : ℕ) (g : Round) → round_after n (Q.Table (TQ.Scan number after limit)) (A.Table answer) g ≡ g
-  no-rows None number after limit g = refl
-  no-rows (Some n) number after limit g = by answer never
-    where
-      by : (answer : TableAnswer) → ((rows : List ScanRow) (last : Bool) → answer ≡ T.Rows rows last → ⊥) → round_after (Some n) (Q.Table (TQ.Scan number after limit)) (A.Table answer) g ≡ g
-      by (T.Rows rows last) never = absurd (never rows last refl)
-      by _ never = refl
-
-  no-end : (cleared_at tick number after limit : ℕ) → balance_end cleared_at tick (Q.Table (TQ.Scan number after limit)) (A.Table answer) ≡ None
-  no-end cleared_at tick number after limit = by answer never
-    where
-      by : (answer : TableAnswer) → ((rows : List ScanRow) (last : Bool) → answer ≡ T.Rows rows last → ⊥) → balance_end cleared_at tick (Q.Table (TQ.Scan number after limit)) (A.Table answer) ≡ None
-      by (T.Rows rows last) never = absurd (never rows last refl)
-      by _ never = refl
-
-  pub scan-idle : (t : BalanceTask) (s : Balancing) (tick : ℕ) → IsScanning t s → balance_after t.query (given tick (A.Table answer)) s ≡ s
-  scan-idle t s tick h =
-      let q = Q.Table (TQ.Scan t.gather.round (reached s.round.scans) t.config.scan_limit) in
-      ap (λ q. balance_after q (given tick (A.Table answer)) s) h.query
-      ∙ ap (λ g. record { number = s.number; round = g; cleared_at = s.cleared_at; refusals = s.refusals; ended = balance_end s.cleared_at tick q (A.Table answer) }) (no-rows s.number t.gather.round (reached s.round.scans) t.config.scan_limit s.round)
-      ∙ ap (λ o. record { number = s.number; round = s.round; cleared_at = s.cleared_at; refusals = s.refusals; ended = o }) (no-end s.cleared_at tick t.gather.round (reached s.round.scans) t.config.scan_limit ∙ sym h.gathers.still)
 
 -- ---- what a device answers to its lists
 
@@ -289,20 +253,6 @@ module _ (t : BalanceTask) (d : ℕ) (s : Balancing) (shows : Shows t s) (placed
       let count : count_by (λ refused. refused) (true ∷ s.refusals) ≡ 1 + count_by (λ refused. refused) s.refusals = sum_by-cons _ true s.refusals in
       subst (λ v. IsAt t v new end) (sym (answered-after (D.Stale held) tick (true ∷ s.refusals) (λ lists. refl)))
       (goes (with_refusal true s) (answered-hands true (t.stale + 1) (omega (arith, h.stale, count)) (omega (arith, h.few))))
-
-  -- any other answer changes nothing
-  pub accept-idle : (answer : DeviceAnswer) (tick : ℕ) → ((trash pull : ℕ) → answer ≡ D.Accepted trash pull → ⊥) → ((held : ℕ) → answer ≡ D.Stale held → ⊥) → IsAfter t (given tick (A.Device answer)) s t None
-  accept-idle answer tick not_accepted not_refused =
-      let h = accepting t d s shows placed in
-      let stays : balance_after t.query (given tick (A.Device answer)) s ≡ s =
-      answered-after answer tick s.refusals (λ lists. by answer lists not_accepted not_refused)
-      ∙ ap (λ o. record { number = s.number; round = s.round; cleared_at = s.cleared_at; refusals = s.refusals; ended = o }) (sym h.still) in
-      subst (λ v. Shows t v) (sym stays) shows
-    where
-      by : (answer : DeviceAnswer) (lists : Lists) → ((trash pull : ℕ) → answer ≡ D.Accepted trash pull → ⊥) → ((held : ℕ) → answer ≡ D.Stale held → ⊥) → refusals_after (Q.Device d (DQ.Accept t.gather.round lists)) (A.Device answer) s.refusals ≡ s.refusals
-      by (D.Accepted trash pull) lists not_accepted not_refused = absurd (not_accepted trash pull refl)
-      by (D.Stale held) lists not_accepted not_refused = absurd (not_refused held refl)
-      by _ lists not_accepted not_refused = refl
 
 pub none-here : (o : Option Outcome) → ((outcome : Outcome) → o ≡ Some outcome → ⊥) → o ≡ None
 none-here None never = refl
