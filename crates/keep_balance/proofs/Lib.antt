@@ -1,3 +1,4 @@
 mod Moves
 mod Pages
 mod Planned
+pub mod Shown

@@ -6,6 +6,7 @@ mod copies;
 mod gathering;
 mod planning;
 mod prefixes;
+mod steps;
 mod task;
 mod totals;
 
