@@ -1,19 +1,13 @@
--- A round where its fields show that it stands: what it asks there, `shown-asks` and `shown-may-ask`; that it has ended or not is kept apart, `with-ended`; an answer that isn't for it, `scan-not-asked` and `accept-not-asked`; where an answer takes it, `round-taken` and `round-may-ask`; how it begins, `round-opens` and `round-ready`.
+-- A balance task whose fields show where it stands: what it asks there, `shown-asks` and `round-asks`; that a port has the device of it, `shown-may-ask`; that it stands there whether or not it has ended, `with-ended`; where an answer takes it, `round-taken` and `round-may-ask`; how it begins, `round-opens` and `round-ready`.
 use Rattle.std.proofs.Common.{◌≡◌, ◌<◌, ◌≤◌, ℕ, nat_le, Bool, false, List, [], ◌∷◌, ◌++◌, length, is_some, Option, None, Some, Ok, refl, sym, ◌∙◌, ap, subst, arith}
 use Rattle.std.proofs.lemmas.Bool.{and_parts, leb-true}
 use Rattle.keep_spec.specs.Config.{Configuration, IsGood}
 use Rattle.keep_event.specs.Port.{MayAsk}
-use Rattle.keep_event.specs.Plan.{reached}
-use Rattle.keep_event.specs.declared.device.DeviceQuery.TheVariants as DQ
-use Rattle.keep_event.specs.declared.device.DeviceAnswer.{DeviceAnswer}
 use Rattle.keep_event.specs.declared.table.TableQuery.TheVariants as TQ
-use Rattle.keep_event.specs.declared.table.TableAnswer.{TableAnswer}
-use Rattle.keep_event.specs.declared.event.Query.{Query}
 use Rattle.keep_event.specs.declared.event.Query.TheVariants as Q
-use Rattle.keep_event.specs.declared.event.Answer.TheVariants as A
 use Rattle.keep_history.specs.Next.{Answered, GoesFrom, Next, asks, ends_or}
 use Rattle.keep_history.specs.Rounds.{prefixes}
-use Rattle.keep_history.specs.Balance.{Balancing, new_balance, balance_next, balance_after, to_clear, to_page, round_next, clear_next, page_next, scan_next, accept_next, round_after}
+use Rattle.keep_history.specs.Balance.{Balancing, new_balance, balance_next, balance_after, to_clear, to_page, round_next, clear_next, page_next, scan_next, accept_next}
 use Rattle.keep_history.specs.Tasks.{next, opened}
 use Rattle.keep_history.specs.declared.task.Opening.TheVariants as Open
 use Rattle.keep_history.specs.declared.task.Outcome.{Outcome}
@@ -21,7 +15,7 @@ use Rattle.keep_history.specs.declared.task.Task.TheVariants as T
 use Rattle.keep_history.proofs.Going.{goes-after, goes-asks}
 use Rattle.keep_tasks.specs.Steps.{IsReady, IsTaken}
 use Rattle.keep_balance.specs.Gathering.{BalanceMayAsk}
-use Rattle.keep_balance.specs.Standing.{given, lists_for, IsAccepting, IsAfter, IsScanning, Shows, ShowsAt, Stands}
+use Rattle.keep_balance.specs.Standing.{IsAfter, Shows, ShowsAt, Stands}
 use Rattle.keep_balance.specs.declared.task.BalanceTask.{BalanceTask}
 use Rattle.keep_balance.specs.declared.task.Place.{Place}
 use Rattle.keep_balance.specs.declared.task.Place.TheVariants.{Begin, Clear, Page, Scan, Accept}
@@ -97,38 +91,6 @@ module _ (t : BalanceTask) (ended : Bool) (s : Balancing) where
 
   pub with-ended : Shows t s → Shows (record t { ended = ended }) s
   with-ended h = record { texts = h.texts; at = ended-at t.place h.at }
-
--- ---- an answer that isn't for what was asked
-
-module _ (q : Query) (a : Answered) (s : Balancing) where
-  nothing-given : s.ended ≡ None → ((n : Option ℕ) → round_after n q a.answer s.round ≡ s.round)
-      → balance_after q a s ≡ record { number = s.number; round = round_after s.number q a.answer s.round; cleared_at = s.cleared_at; refusals = s.refusals; ended = None } → balance_after q a s ≡ s
-  nothing-given still round e =
-      e ∙ ap (λ g. record { number = s.number; round = g; cleared_at = s.cleared_at; refusals = s.refusals; ended = None }) (round s.number)
-      ∙ ap (λ o. record { number = s.number; round = s.round; cleared_at = s.cleared_at; refusals = s.refusals; ended = o }) (sym still)
-
-module _ (t : BalanceTask) (s : Balancing) (shows : Shows t s) (tick : ℕ) where
-  pub scan-not-asked : (answer : DeviceAnswer) → t.place ≡ Scan → IsAfter t (given tick (A.Device answer)) s t None
-  scan-not-asked answer placed =
-      let h : IsScanning t s = subst (λ p. ShowsAt p t s) placed shows.at in
-      let q : Query = Q.Table (TQ.Scan t.gather.round (reached s.round.scans) t.config.scan_limit) in
-      let stays : balance_after q (given tick (A.Device answer)) s ≡ s = nothing-given q (given tick (A.Device answer)) s h.gathers.still (by q) refl in
-      subst (Shows t) (sym (ap (λ q. balance_after q (given tick (A.Device answer)) s) h.query ∙ stays)) shows
-    where
-      by : (q : Query) → (n : Option ℕ) → round_after n (Q.Table (TQ.Scan t.gather.round (reached s.round.scans) t.config.scan_limit)) (A.Device answer) s.round ≡ s.round
-      by q None = refl
-      by q (Some n) = refl
-
-  pub accept-not-asked : (d : ℕ) (answer : TableAnswer) → t.place ≡ Accept d → IsAfter t (given tick (A.Table answer)) s t None
-  accept-not-asked d answer placed =
-      let h : IsAccepting t d s = subst (λ p. ShowsAt p t s) placed shows.at in
-      let q : Query = Q.Device d (DQ.Accept t.gather.round (lists_for t.config t.gather.round s.round d)) in
-      let stays : balance_after q (given tick (A.Table answer)) s ≡ s = nothing-given q (given tick (A.Table answer)) s h.still by refl in
-      subst (Shows t) (sym (ap (λ q. balance_after q (given tick (A.Table answer)) s) h.query ∙ stays)) shows
-    where
-      by : (n : Option ℕ) → round_after n (Q.Device d (DQ.Accept t.gather.round (lists_for t.config t.gather.round s.round d))) (A.Table answer) s.round ≡ s.round
-      by None = refl
-      by (Some n) = refl
 
 -- ---- where an answer takes it
 

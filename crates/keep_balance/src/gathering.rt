@@ -7,7 +7,6 @@ use keep_event::{Answer, DeviceAnswer, Entry, Query, TableAnswer};
 use keep_gather::Gather;
 use keep_history::Outcome;
 use keep_spec::NoMemory;
-use std::alloc::Global;
 
 impl BalanceTask {
     ghost use Rattle.std.specs.Prelude.{◌≡◌, IfOk, OnErr};

@@ -3,16 +3,9 @@ ghost use Rattle.std.specs.Prelude.{◌≡◌};
 ghost use Rattle.keep_event.specs.declared.device.DeviceQuery.TheVariants as DQ;
 ghost use Rattle.keep_event.specs.declared.event.Query.TheVariants as Q;
 
-use crate::answers::{disordered, refusal};
-use crate::copies::copy_rows;
-use crate::totals::{pull_items, trash_items};
 use keep_config::Config;
-use keep_event::{
-    Answer, DeviceAnswer, DeviceQuery, Lists, Query, ScanRow, TableAnswer, TableQuery,
-};
+use keep_event::{DeviceQuery, Lists, Query, TableQuery};
 use keep_gather::Gather;
-use keep_history::Outcome;
-use keep_plan::Plan;
 use keep_spec::{Bytes, NoMemory};
 use std::alloc::Global;
 
@@ -61,11 +54,9 @@ pub(crate) fn clear_query(round: u64, device: u32) -> Query
 }
 
 impl BalanceTask {
-    ghost use Rattle.std.specs.Prelude.{◌≤◌, ◌<◌, ◌+◌, ℕ, List, OnOk, OnErr, IfOk, IfSome, None, Some, drop, length, map, option_map, slice_get};
+    ghost use Rattle.std.specs.Prelude.{◌+◌, IfOk, option_map, slice_get};
     ghost use Rattle.keep_event.specs.Plan.{reached};
     ghost use Rattle.keep_event.specs.declared.table.TableQuery.TheVariants as TQ;
-    ghost use Rattle.keep_history.specs.Balance.{Balancing};
-    ghost use Rattle.keep_balance.specs.Standing.{given, pages_from, AsksPage, IsPlanned, IsAfter, Shows};
     ghost use Rattle.keep_balance.specs.declared.task.Place.TheVariants as P;
 
     // The page of a device by the number of its prefix, if there is one.
