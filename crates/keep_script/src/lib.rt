@@ -7,6 +7,7 @@ mod hexadecimal;
 mod line;
 mod opening;
 mod printed;
+mod rounds;
 mod tables;
 
 pub use line::{CommandError, read_line};

@@ -2,13 +2,13 @@
 ghost use Rattle.std.specs.Prelude.{◌≡◌, ◌<◌, length, IfOk, IfSome, Option, None, Some, option_map, option_copied};
 ghost use Rattle.serde_json.specs.View.{view};
 ghost use Rattle.serde_json.specs.Find.{get};
-ghost use Rattle.keep_history.specs.Script.{block_request_of_data, digest_at, digest_of_data, ended_locator, get_of_data, locator_of_data, locator_of_reference, opening_of_kind, put_of_data, restart_of_data, touch_of_data, untrash_of_data, HasTimes};
+ghost use Rattle.keep_history.specs.Script.{block_request_of_data, digest_at, digest_of_data, ended_locator, get_of_data, locator_of_data, locator_of_reference, opening_of_kind, put_of_data, touch_of_data, untrash_of_data, HasTimes};
 ghost use Rattle.keep_history.specs.Names.{at_name, seen_names};
 ghost use Rattle.keep_history.specs.Tasks.{NamesWithin};
 
-use crate::collections::table_opening_of_kind;
-use crate::fields::{device_at, members_if, server_at};
+use crate::fields::{members_if, server_at};
 use crate::hexadecimal::bytes_of_text;
+use crate::rounds::round_opening_of_kind;
 use keep_config::Config;
 use keep_config::json::{has_members, text_at};
 use keep_history::{Opening, TaskState};
@@ -37,10 +37,8 @@ pub(crate) fn opening_of_kind<T>(
         touch_of_value(alloc, config, names, value)
     } else if kind == b"untrash".as_slice() {
         untrash_of_value(alloc, config, value)
-    } else if kind == b"restart".as_slice() {
-        Ok(restart_of_value(config, value))
     } else {
-        table_opening_of_kind(alloc, names, kind, value)
+        round_opening_of_kind(alloc, config, names, kind, value)
     }
 }
 
@@ -192,19 +190,6 @@ fn untrash_of_value(
         server,
         digest,
     }))
-}
-
-fn restart_of_value(config: &Config, value: &Value) -> Option<Opening>
-    ensures opening { result ≡ restart_of_data config.now (view value.now) }
-    ensures times { IfSome result HasTimes }
-    ensures within { IfSome result (NamesWithin config.now) }
-{
-    let device = device_at(config, value)?;
-    if has_members(value, 4) {
-        Some(Opening::Restart { device })
-    } else {
-        None
-    }
 }
 
 fn digest_at(value: &Value, field: &str) -> Option<Digest>

@@ -134,6 +134,23 @@ fn push_outcome(out: &mut Vec<u8>, outcome: &Outcome) -> Result<(), NoMemory>
         Outcome::WrongHash { computed } => push_hash(out, b"WrongHash", computed),
         Outcome::BadWant => push_word(out, b"BadWant"),
         Outcome::TooManyVersions { held } => push_number(out, b"TooManyVersions", *held),
+        Outcome::Balanced {
+            round,
+            trash,
+            pull,
+            lost,
+            stale,
+        } => push_balanced(out, *round, *trash, *pull, *lost, *stale),
+        Outcome::Stale { device, held } => {
+            push_numbers(out, b"Stale", u64::from(*device), *held)
+        }
+        Outcome::Disordered { earlier, later } => {
+            push_numbers(out, b"Disordered", *earlier, *later)
+        }
+        Outcome::Trashed { replicas } => push_number(out, b"Trashed", *replicas),
+        Outcome::Pulled { done, failed } => push_numbers(out, b"Pulled", *done, *failed),
+        Outcome::Emptied { copies } => push_number(out, b"Emptied", *copies),
+        Outcome::ReadOnly => push_word(out, b"ReadOnly"),
     }
 }
 
@@ -164,6 +181,21 @@ fn push_row_end(
     push_optional(out, trash_at)?;
     push_word(out, b" ")?;
     push_quoted(out, text)
+}
+
+fn push_balanced(
+    out: &mut Vec<u8>,
+    round: u64,
+    trash: u64,
+    pull: u64,
+    lost: u64,
+    stale: u64,
+) -> Result<(), NoMemory>
+    ensures { OnOk result (out.new.items ≡ out.old.items ++ outcome_words (Outcome.Balanced round trash pull lost stale)) }
+{
+    push_numbers(out, b"Balanced", round, trash)?;
+    push_numbers(out, b"", pull, lost)?;
+    push_number(out, b"", stale)
 }
 
 pub(crate) fn push_word(out: &mut Vec<u8>, word: &[u8]) -> Result<(), NoMemory>
