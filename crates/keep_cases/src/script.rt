@@ -106,10 +106,17 @@ fn add_opening(opening: &Opening, answer: &mut Answer) {
             add_block_request(b" untrash", token, *server, answer);
             add_digest(Some(digest), answer);
         }
-        Opening::Restart { device } => {
-            answer.text(b" restart");
-            add_number(u64::from(*device), answer);
-        }
+        _ => add_round_opening(opening, answer),
+    }
+}
+
+fn add_round_opening(opening: &Opening, answer: &mut Answer) {
+    match opening {
+        Opening::Balance => answer.text(b" balance"),
+        Opening::TrashWorker { device } => add_device(b" trash_worker", *device, answer),
+        Opening::PullWorker { device } => add_device(b" pull_worker", *device, answer),
+        Opening::EmptyWorker { device } => add_device(b" empty_worker", *device, answer),
+        Opening::Restart { device } => add_device(b" restart", *device, answer),
         _ => add_table_opening(opening, answer),
     }
 }
@@ -156,6 +163,11 @@ fn add_table_opening(opening: &Opening, answer: &mut Answer) {
         }
         _ => answer.text(b" sweep"),
     }
+}
+
+fn add_device(kind: &[u8], device: u32, answer: &mut Answer) {
+    answer.text(kind);
+    add_number(u64::from(device), answer);
 }
 
 fn add_block_request(kind: &[u8], token: &Bytes, server: u32, answer: &mut Answer) {
