@@ -1,14 +1,12 @@
 -- Tasks that ask the table: `table-begins`, `table-asks` and `table-ends` on where they stand; `saved-end` and `updated-end` on their UUIDs; `row-of-read` on which query is answered a row.
-use Rattle.std.proofs.Common.{◌≡◌, ℕ, Bool, true, false, List, [], ◌∷◌, ◌++◌, Option, None, Some, refl, sym, ◌∙◌, ap, append_assoc}
+use Rattle.std.proofs.Common.{◌≡◌, ℕ, false, List, [], ◌∷◌, ◌++◌, Option, Some, refl, sym, ◌∙◌, ap}
 use Rattle.std.proofs.lemmas.List.{append-nil}
 use Rattle.keep_spec.specs.Config.{Configuration}
 use Rattle.keep_spec.specs.declared.portable.Portable.{Portable}
 use Rattle.keep_event.specs.Answers.{IsTableAnswer, IsAnswerOf}
-use Rattle.keep_event.specs.Collections.{collection_uuid, kind_of_collections, padded}
-use Rattle.keep_event.specs.declared.event.Answer.{Answer}
+use Rattle.keep_event.specs.Collections.{collection_uuid, padded}
 use Rattle.keep_event.specs.declared.event.Answer.TheVariants as An
 use Rattle.keep_event.specs.declared.event.Query.{Query}
-use Rattle.keep_event.specs.declared.event.Query.TheVariants as Query
 use Rattle.keep_event.specs.declared.table.TableQuery.{TableQuery}
 use Rattle.keep_event.specs.declared.table.TableQuery.TheVariants as TQ
 use Rattle.keep_event.specs.declared.table.TableAnswer.{TableAnswer}
@@ -16,8 +14,8 @@ use Rattle.keep_event.specs.declared.table.TableAnswer.TheVariants as TA
 use Rattle.keep_history.specs.declared.task.Outcome.{Outcome}
 use Rattle.keep_history.specs.declared.task.Outcome.TheVariants as O
 use Rattle.keep_history.specs.declared.task.Task.TheVariants as T
-use Rattle.keep_history.specs.Next.{Answered, Next, asks, ends}
-use Rattle.keep_history.specs.Tasks.{next, one, table_end, table_end_of}
+use Rattle.keep_history.specs.Next.{Answered, Next, asks}
+use Rattle.keep_history.specs.Tasks.{next, table_end, table_end_of}
 use Rattle.keep_tasks.specs.Steps.{IsTaken}
 use Rattle.keep_tasks.specs.Tables.{IsTable, ends_of, is_read, is_row, uuid_beginning}
 use Rattle.keep_tasks.specs.declared.table.Ends.{Ends}

@@ -1,10 +1,9 @@
 -- Openings that ask the table; the task that an opening makes, and its devices.
-use Rattle.std.specs.Prelude.{◌<◌, ℕ, List, [], All, Result, Ok, Err, ⊤}
+use Rattle.std.specs.Prelude.{Result, Ok, Err, ⊤}
 use Rattle.keep_history.specs.declared.task.Opening.{Opening}
 use Rattle.keep_history.specs.declared.task.Opening.TheVariants as Open
 use Rattle.keep_history.specs.declared.task.Outcome.{Outcome}
 use Rattle.keep_history.specs.declared.task.Task.{Task}
-use Rattle.keep_history.specs.declared.task.Task.TheVariants as T
 
 -- an opening that asks the table
 abbrev pub AsksTable : Opening → Type 0

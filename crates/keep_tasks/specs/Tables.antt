@@ -3,7 +3,6 @@ use Rattle.std.specs.Prelude.{◌≡◌, ℕ, List, ◌++◌, Bool, true, false,
 use Rattle.keep_spec.specs.Config.{Configuration}
 use Rattle.keep_event.specs.Collections.{kind_of_collections}
 use Rattle.keep_event.specs.declared.event.Query.{Query}
-use Rattle.keep_event.specs.declared.event.Query.TheVariants as Query
 use Rattle.keep_event.specs.declared.table.TableQuery.{TableQuery}
 use Rattle.keep_event.specs.declared.table.TableQuery.TheVariants as TQ
 use Rattle.keep_event.specs.declared.table.TableAnswer.{TableAnswer}

@@ -1,5 +1,4 @@
-use Rattle.std.proofs.Common.{sym, ap, ◌∙◌}
-use Rattle.keep_history.specs.Tasks.{table_end}
+use Rattle.std.proofs.Common.{sym, ◌∙◌}
 use Rattle.keep_tasks.proofs.Tables.{saved-end, updated-end}
 use Rattle.keep_tasks.proofs.table.Ends.end.Goals as goal
 
