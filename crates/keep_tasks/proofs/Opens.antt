@@ -12,11 +12,8 @@ use Rattle.keep_event.specs.declared.device.DeviceQuery.TheVariants as Q
 use Rattle.keep_history.specs.Next.{Answered, Next}
 use Rattle.keep_history.specs.Tasks.{next, opened, put_opened, get_opened, touch_opened, untrash_opened}
 use Rattle.keep_tasks.specs.Kinds.{IsRestart}
-use Rattle.keep_tasks.specs.Running.{as_any}
-use Rattle.keep_tasks.specs.Steps.{IsOpened, IsReady}
-use Rattle.keep_tasks.specs.declared.running.Running.{Running}
+use Rattle.keep_tasks.specs.Steps.{IsOpened, IsReady, opened_map}
 use Rattle.keep_tasks.specs.declared.steps.Opened.{Opened}
-use Rattle.keep_tasks.specs.declared.steps.Opened.TheVariants as Opened
 
 pub ended-at-once : {T : Type 0} (Stands : T → Task → Type 0) (r : Result Task Outcome) (outcome : Outcome) → r ≡ Err outcome → IsOpened r (Opened.Ended outcome) Stands
 ended-at-once Stands r outcome e = rw e refl
@@ -75,8 +72,8 @@ unfolding next
 restart-begins c device = record { device = device; query_is = refl; goes = λ more. refl }
 
 -- an opening that is right for a task of its kind is right for one of any
-pub of-kind : {T : Type 0} (kind : T → Running) (Stands : T → Task → Type 0) (Known : Running → Task → Type 0) (r : Result Task Outcome) (o : Opened T) (any : Opened Running)
-    → any ≡ as_any kind o → IsOpened r o Stands → ((t : T) (task : Task) → Stands t task → Known (kind t) task) → IsOpened r any Known
+pub of-kind : {T U : Type 0} (kind : T → U) (Stands : T → Task → Type 0) (Known : U → Task → Type 0) (r : Result Task Outcome) (o : Opened T) (any : Opened U)
+    → any ≡ opened_map kind o → IsOpened r o Stands → ((t : T) (task : Task) → Stands t task → Known (kind t) task) → IsOpened r any Known
 of-kind kind Stands Known (Ok task) (Opened.Task t) any e h same = rw e (same t task h)
 of-kind kind Stands Known (Ok task) (Opened.Ended outcome) any e h same = absurd h
 of-kind kind Stands Known (Err end) (Opened.Ended outcome) any e h same = rw e h

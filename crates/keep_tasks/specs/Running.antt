@@ -7,8 +7,6 @@ use Rattle.keep_tasks.specs.Kinds.{IsPut, ArePut, IsGet, IsTouch, IsUntrash, IsR
 use Rattle.keep_tasks.specs.Tables.{IsTable, is_read}
 use Rattle.keep_tasks.specs.Walks.{AreBelow}
 use Rattle.keep_tasks.specs.declared.running.Running.{Running}
-use Rattle.keep_tasks.specs.declared.steps.Opened.{Opened}
-use Rattle.keep_tasks.specs.declared.steps.Opened.TheVariants as O
 use Rattle.keep_tasks.specs.declared.running.Running.TheVariants as R
 
 abbrev pub query_of : Running → Query
@@ -50,8 +48,3 @@ sure (R.Touch t) = true
 sure (R.Untrash t) = true
 sure (R.Restart t) = true
 sure (R.Table t) = not (is_read t.query)
-
--- what an opening of one kind makes, as a task of any
-abbrev pub as_any : {T : Type 0} → (T → Running) → Opened T → Opened Running
-as_any kind (O.Task t) = O.Task (kind t)
-as_any kind (O.Ended outcome) = O.Ended outcome

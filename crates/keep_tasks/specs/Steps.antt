@@ -81,3 +81,8 @@ IsOpened _ _ Stands = ⊥
 -- a task that has asked nothing stands before any answer, and may ask a port that has the configuration's devices
 abbrev pub IsReady : Bool → ((List Answered → Next) → List Answered → Type 0) → (ℕ → Type 0) → Configuration → Task → Type 0
 IsReady ended stands may_ask c task = (ended ≡ false) × (stands (next c task) [] × may_ask (length c.devices))
+
+-- what an opening makes, with another task made of its task
+abbrev pub opened_map : {T U : Type 0} → (T → U) → Opened T → Opened U
+opened_map kind (O.Task t) = O.Task (kind t)
+opened_map kind (O.Ended outcome) = O.Ended outcome

@@ -3,7 +3,6 @@ ghost use Rattle.std.specs.Prelude.{◌≡◌, IfOk};
 ghost use Rattle.keep_history.specs.Script.{HasTimes};
 ghost use Rattle.keep_history.specs.Tasks.{opened, NamesWithin};
 ghost use Rattle.keep_tasks.specs.Openings.{IsOfClient};
-ghost use Rattle.keep_tasks.specs.Running.{as_any};
 ghost use Rattle.keep_tasks.specs.Steps.{IsOpened, IsReady};
 
 use crate::get::GetTask;
@@ -78,17 +77,6 @@ impl Steps for Running {
     }
 }
 
-// What an opening of one kind makes, as a task of any.
-fn any_kind<T, F: FnOnce(T) -> Running>(opened: Opened<T>, kind: F) -> Opened<Running>
-    requires { F.IsAlwaysCallable kind }
-    ensures { (made : T → Running) → ((task : T) → (running : Running) → F.post kind task running → running ≡ made task) → result ≡ as_any made opened }
-{
-    match opened {
-        Opened::Task(task) => Opened::Task(kind(task)),
-        Opened::Ended(end) => Opened::Ended(end),
-    }
-}
-
 /// Opens a task of the kind that an opening names, at a reading (nanoseconds since 1970), or ends at once. Nothing is asked. The opening is neither a balance
 /// nor a worker; the server or device that it names is one of the configuration, and the times of a trash are readings. The only error is NoMemory.
 pub fn open_task(
@@ -111,7 +99,7 @@ pub fn open_task(
             digest,
         } => {
             let opened = PutTask::open(alloc, config, server, token, bytes, digest)?;
-            Ok(any_kind(opened, Running::Put))
+            Ok(opened.map(Running::Put))
         }
         Opening::Get {
             token,
@@ -120,7 +108,7 @@ pub fn open_task(
         } => {
             let (token, locator) = (token.as_slice(), locator.as_slice());
             let opened = GetTask::open(alloc, config, server, token, locator, reading)?;
-            Ok(any_kind(opened, Running::Get))
+            Ok(opened.map(Running::Get))
         }
         Opening::Touch {
             token,
@@ -129,7 +117,7 @@ pub fn open_task(
         } => {
             let locator = locator.as_slice();
             let opened = TouchTask::open(alloc, config, server, token, locator, reading)?;
-            Ok(any_kind(opened, Running::Touch))
+            Ok(opened.map(Running::Touch))
         }
         Opening::Untrash {
             token,
@@ -137,14 +125,14 @@ pub fn open_task(
             digest,
         } => {
             let opened = UntrashTask::open(alloc, config, server, token.as_slice(), digest)?;
-            Ok(any_kind(opened, Running::Untrash))
+            Ok(opened.map(Running::Untrash))
         }
         Opening::Restart { device } => {
-            Ok(any_kind(RestartTask::open(config, device), Running::Restart))
+            Ok(RestartTask::open(config, device).map(Running::Restart))
         }
         _ => {
             let opened = TableTask::open(alloc, config, table_query(config, opening))?;
-            Ok(any_kind(opened, Running::Table))
+            Ok(opened.map(Running::Table))
         }
     }
 }

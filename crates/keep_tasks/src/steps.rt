@@ -5,7 +5,7 @@ ghost use Rattle.keep_event.specs.Answers.{IsAnswerOf};
 ghost use Rattle.keep_event.specs.Port.{MayAsk};
 ghost use Rattle.keep_event.specs.declared.event.Query.{Query as TheQuery};
 ghost use Rattle.keep_history.specs.Next.{Answered, Next, asks};
-ghost use Rattle.keep_tasks.specs.Steps.{AsksOnce, IsTaken, answered, view};
+ghost use Rattle.keep_tasks.specs.Steps.{AsksOnce, IsTaken, answered, opened_map, view};
 
 use keep_event::{Port, PortError, Query, Reply};
 use keep_history::Outcome;
@@ -25,6 +25,19 @@ pub enum Opened<T> {
     Task(T),
     /// The end at once; nothing is asked.
     Ended(Outcome),
+}
+
+impl<T> Opened<T> {
+    /// The same end, or what `kind` makes of the task.
+    pub fn map<U, F: FnOnce(T) -> U>(self, kind: F) -> Opened<U>
+        requires { F.IsAlwaysCallable kind }
+        ensures { (made : T → U) → ((task : T) → (other : U) → F.post kind task other → other ≡ made task) → result ≡ opened_map made self }
+    {
+        match self {
+            Opened::Task(task) => Opened::Task(kind(task)),
+            Opened::Ended(end) => Opened::Ended(end),
+        }
+    }
 }
 
 /// A task between two queries. It keeps no answers.
