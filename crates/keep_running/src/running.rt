@@ -2,9 +2,9 @@
 ghost use Rattle.std.specs.Prelude.{◌≡◌, IfOk};
 ghost use Rattle.keep_history.specs.Script.{HasTimes};
 ghost use Rattle.keep_history.specs.Tasks.{opened, NamesWithin};
-ghost use Rattle.keep_history.specs.declared.task.Opening.{Opening as TheOpening};
 ghost use Rattle.keep_tasks.specs.Steps.{IsOpened, IsReady};
 
+use keep_balance::BalanceTask;
 use keep_config::Config;
 use keep_event::{Query, Reply};
 use keep_history::{Opening, Outcome};
@@ -18,6 +18,7 @@ use std::alloc::Global;
 pub enum AnyTask {
     /// A client's task, or a restart.
     Client(Running),
+    Balance(BalanceTask),
     TrashWorker(TrashWorker),
     PullWorker(PullWorker),
     EmptyWorker(EmptyWorker),
@@ -39,6 +40,7 @@ impl Steps for AnyTask {
     fn ended(&self) -> bool {
         match self {
             AnyTask::Client(task) => task.ended(),
+            AnyTask::Balance(task) => task.ended(),
             AnyTask::TrashWorker(worker) => worker.ended(),
             AnyTask::PullWorker(worker) => worker.ended(),
             AnyTask::EmptyWorker(worker) => worker.ended(),
@@ -48,6 +50,7 @@ impl Steps for AnyTask {
     fn query(&self) -> &Query {
         match self {
             AnyTask::Client(task) => task.query(),
+            AnyTask::Balance(task) => task.query(),
             AnyTask::TrashWorker(worker) => worker.query(),
             AnyTask::PullWorker(worker) => worker.query(),
             AnyTask::EmptyWorker(worker) => worker.query(),
@@ -57,6 +60,7 @@ impl Steps for AnyTask {
     fn take(&mut self, reply: &Reply) -> Result<Option<Outcome>, NoMemory> {
         match self {
             AnyTask::Client(task) => task.take(reply),
+            AnyTask::Balance(task) => task.take(reply),
             AnyTask::TrashWorker(worker) => worker.take(reply),
             AnyTask::PullWorker(worker) => worker.take(reply),
             AnyTask::EmptyWorker(worker) => worker.take(reply),
@@ -72,13 +76,16 @@ pub fn open_any(
     opening: Opening,
     reading: u64,
 ) -> Result<Opened<AnyTask>, NoMemory>
-    requires kind { opening ≡ TheOpening.Balance → ⊥ }
     requires within { NamesWithin config.now opening }
     requires times { HasTimes opening }
     ensures opened { IfOk result (λ o. IsOpened (opened config.now opening reading) o (λ t task.
         IsReady (⟦<AnyTask as Steps>⟧.has_ended t) (⟦<AnyTask as Steps>⟧.stands t) (⟦<AnyTask as Steps>⟧.may_ask t) config.now task)) }
 {
     match opening {
+        Opening::Balance => {
+            let opened = BalanceTask::open(alloc, config)?;
+            Ok(opened.map(AnyTask::Balance))
+        }
         Opening::TrashWorker { device } => {
             Ok(TrashWorker::open(config, device).map(AnyTask::TrashWorker))
         }

@@ -3,6 +3,9 @@ use Rattle.keep_running.proofs.running.AnyTaskSteps.query.Goals as goal
 pub returns-in-Client-clause-named : goal.returns-in-Client-clause-named
 returns-in-Client-clause-named c = rw c.in-Client.is c.query.ensures.named
 
+pub returns-in-Balance-clause-named : goal.returns-in-Balance-clause-named
+returns-in-Balance-clause-named c = rw c.in-Balance.is c.query-in-Balance.ensures.named
+
 pub returns-in-TrashWorker-clause-named : goal.returns-in-TrashWorker-clause-named
 returns-in-TrashWorker-clause-named c = rw c.in-TrashWorker.is c.query-in-TrashWorker.ensures.named
 

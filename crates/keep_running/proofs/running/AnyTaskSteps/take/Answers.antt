@@ -6,6 +6,12 @@ returns-in-Client-clause-taken c = rw c.in-Client.is c.take.ensures.taken
 pub returns-in-Client-clause-askable : goal.returns-in-Client-clause-askable
 returns-in-Client-clause-askable c = rw c.in-Client.is c.take.ensures.askable
 
+pub returns-in-Balance-clause-taken : goal.returns-in-Balance-clause-taken
+returns-in-Balance-clause-taken c = rw c.in-Balance.is c.take-in-Balance.ensures.taken
+
+pub returns-in-Balance-clause-askable : goal.returns-in-Balance-clause-askable
+returns-in-Balance-clause-askable c = rw c.in-Balance.is c.take-in-Balance.ensures.askable
+
 pub returns-in-TrashWorker-clause-taken : goal.returns-in-TrashWorker-clause-taken
 returns-in-TrashWorker-clause-taken c = rw c.in-TrashWorker.is c.take-in-TrashWorker.ensures.taken
 
