@@ -1,5 +1,5 @@
 -- What an answer makes of a balance task while its round is gathered. For private clauses.
-use Rattle.std.specs.Prelude.{◌≡◌, ◌+◌, ◌<◌, ◌≤◌, ◌⊎◌, max, ℕ, suc, List, [], length, flat_map, map, drop, false, Option, None, Some}
+use Rattle.std.specs.Prelude.{◌≡◌, ◌+◌, ◌<◌, ◌≤◌, ◌⊎◌, max, ℕ, suc, List, [], length, flat_map, map, drop, Bool, true, false, Option, None, Some}
 use Rattle.keep_spec.specs.Members.{numbers_from}
 use Rattle.keep_event.specs.Plan.{Gathered, nothing_gathered, with_page}
 use Rattle.keep_event.specs.Port.{MayAsk}
@@ -17,7 +17,7 @@ use Rattle.keep_history.specs.declared.task.Outcome.{Outcome}
 use Rattle.keep_balance.specs.Standing.{AsksPage, Shows, pages_from, refused_by}
 use Rattle.keep_balance.specs.declared.task.BalanceTask.{BalanceTask}
 use Rattle.keep_balance.specs.declared.task.Place.{Place}
-use Rattle.keep_balance.specs.declared.task.Place.TheVariants.{Clear, Scan}
+use Rattle.keep_balance.specs.declared.task.Place.TheVariants.{Accept, Begin, Clear, Scan}
 
 -- ---- what comes next
 
@@ -75,6 +75,12 @@ TakesPaged d next tick (A.Device (D.Page entries)) old new end = TakesPage d nex
 TakesPaged d next tick answer old new end = (end ≡ refused_by d answer) × (new ≡ old)
 
 -- ---- what it may ask
+
+-- where it draws its number or hands lists on: what comes of the answer wants no memory
+abbrev pub is_sure : Place → Bool
+is_sure Begin = true
+is_sure (Accept d) = true
+is_sure _ = false
 
 -- a port of so many devices has those that it asks, and a page of a scan has room for a row
 pub record BalanceMayAsk (t : BalanceTask) (n : ℕ) : Type 0 where

@@ -1,5 +1,5 @@
 // A round as a task: how it is opened, and its steps.
-ghost use Rattle.std.specs.Prelude.{◌≡◌, ℕ, IfOk, OnErr};
+ghost use Rattle.std.specs.Prelude.{◌≡◌, ℕ, IfOk, IsOk, OnErr, true};
 ghost use Rattle.keep_balance.specs.declared.task.Place.TheVariants as P;
 
 use crate::copies::copy_config;
@@ -14,8 +14,7 @@ use keep_tasks::{Opened, Steps};
 use std::alloc::Global;
 
 impl Steps for BalanceTask {
-    ghost use Rattle.std.specs.Prelude.{false};
-    ghost use Rattle.keep_balance.specs.Gathering.{BalanceMayAsk};
+    ghost use Rattle.keep_balance.specs.Gathering.{BalanceMayAsk, is_sure};
     ghost use Rattle.keep_balance.specs.Standing.{Stands};
 
     ghost query_of = { λ t. t.query };
@@ -26,7 +25,7 @@ impl Steps for BalanceTask {
 
     ghost may_ask = { BalanceMayAsk };
 
-    ghost sure = { λ t. false };
+    ghost sure = { λ t. is_sure t.place };
 
     fn ended(&self) -> bool {
         self.ended
@@ -48,6 +47,7 @@ impl BalanceTask {
     ghost use Rattle.keep_history.specs.Balance.{Balancing};
     ghost use Rattle.keep_history.specs.Tasks.{opened};
     ghost use Rattle.keep_history.specs.declared.task.Opening.{Opening as TheOpening};
+    ghost use Rattle.keep_balance.specs.Gathering.{is_sure};
     ghost use Rattle.keep_balance.specs.Standing.{given, IsAfter, Shows};
     ghost use Rattle.keep_tasks.specs.Steps.{IsOpened, IsReady};
 
@@ -79,6 +79,7 @@ impl BalanceTask {
     fn take_answer(&mut self, answer: &Answer, tick: u64) -> Result<Option<Outcome>, NoMemory>
         ensures taken { IfOk result (λ end. (s : Balancing) → Shows self.old s → IsAfter self.old (given tick answer.now) s self.new end) }
         ensures config { IfOk result (λ _. self.new.config ≡ self.old.config) }
+        ensures sure { is_sure self.old.place ≡ true → IsOk result }
         ensures unchanged { OnErr result (self.new ≡ self.old) }
     {
         match self.place {

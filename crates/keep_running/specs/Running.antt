@@ -1,13 +1,13 @@
 -- A task of any kind, by the meanings of its kind. For private clauses.
 use Rattle.std.specs.Prelude.{ℕ, List, Bool, true, false}
-use Rattle.keep_balance.specs.Gathering.{BalanceMayAsk}
+use Rattle.keep_balance.specs.Gathering.{BalanceMayAsk, is_sure}
 use Rattle.keep_balance.specs.Standing.{Stands}
 use Rattle.keep_event.specs.Port.{MayAsk}
 use Rattle.keep_event.specs.declared.event.Query.{Query}
 use Rattle.keep_history.specs.Next.{Answered, Next}
 use Rattle.keep_tasks.specs.Running as client
 use Rattle.keep_workers.specs.Empties.{IsEmptying}
-use Rattle.keep_workers.specs.Pulls.{IsPulling, PullMayAsk}
+use Rattle.keep_workers.specs.Pulls.{IsPulling, PullMayAsk, is_write}
 use Rattle.keep_workers.specs.Trashes.{IsTrashing}
 use Rattle.keep_running.specs.declared.running.AnyTask.{AnyTask}
 use Rattle.keep_running.specs.declared.running.AnyTask.TheVariants as T
@@ -42,7 +42,7 @@ may_ask (T.EmptyWorker w) n = MayAsk n w.query
 
 abbrev pub sure : AnyTask → Bool
 sure (T.Client t) = client.sure t
-sure (T.Balance t) = false
+sure (T.Balance t) = is_sure t.place
 sure (T.TrashWorker w) = true
-sure (T.PullWorker w) = false
+sure (T.PullWorker w) = is_write w.query
 sure (T.EmptyWorker w) = true

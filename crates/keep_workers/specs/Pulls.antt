@@ -1,10 +1,11 @@
 -- Where a pull worker stands after its answers. For private clauses.
-use Rattle.std.specs.Prelude.{◌≡◌, ◌+◌, ◌<◌, ◌≤◌, ℕ, List, All, filter, length, nat_lt, Option, None, Some, if◌then◌else◌}
+use Rattle.std.specs.Prelude.{◌≡◌, ◌+◌, ◌<◌, ◌≤◌, ℕ, List, All, Bool, true, false, filter, length, nat_lt, Option, None, Some, if◌then◌else◌}
 use Rattle.keep_event.specs.Port.{MayAsk}
 use Rattle.keep_event.specs.declared.device.DeviceAnswer.{DeviceAnswer}
 use Rattle.keep_event.specs.declared.device.DeviceAnswer.TheVariants as A
 use Rattle.keep_event.specs.declared.device.DeviceQuery.TheVariants as Q
 use Rattle.keep_event.specs.declared.event.Query.{Query}
+use Rattle.keep_event.specs.declared.event.Query.TheVariants as Query
 use Rattle.keep_spec.specs.Config.{Configuration}
 use Rattle.keep_history.specs.declared.task.Outcome.{Outcome}
 use Rattle.keep_history.specs.Next.{Answered, GoesFrom, Next, ends}
@@ -45,6 +46,11 @@ pub record PullMayAsk (w : PullWorker) (n : ℕ) : Type 0 where
   pub sources : All (λ d. d < n) w.sources.items
   pub own : w.device < n
   pub known : w.devices ≤ n
+
+-- it is asked to write: what comes of that wants no memory
+abbrev pub is_write : Query → Bool
+is_write (Query.Device d (Q.Write block token)) = true
+is_write _ = false
 
 -- the worker's device, and the number of devices of the configuration, stay
 abbrev pub SamePlace : PullWorker → PullWorker → Type 0

@@ -1,9 +1,9 @@
 // Pull workers.
-ghost use Rattle.std.specs.Prelude.{◌≡◌, ◌+◌, ◌<◌, ◌≤◌, ℕ, All, IfOk, OnErr};
+ghost use Rattle.std.specs.Prelude.{◌≡◌, ◌+◌, ◌<◌, ◌≤◌, ℕ, All, IfOk, IsOk, OnErr, true};
 ghost use Rattle.keep_spec.specs.Config.{Configuration};
 ghost use Rattle.keep_history.specs.declared.task.Outcome.{Outcome as TheOutcome};
 ghost use Rattle.keep_history.specs.Workers.{by_device, fetch_from, fetching_answered, item_done, item_failed, items_max, taking, taking_answered, writing_answered};
-ghost use Rattle.keep_workers.specs.Pulls.{IsPullingFew, PullMayAsk, PullMoves, SamePlace, block_in, known_sources, pulling};
+ghost use Rattle.keep_workers.specs.Pulls.{IsPullingFew, PullMayAsk, PullMoves, SamePlace, block_in, is_write, known_sources, pulling};
 
 use crate::items::{ITEMS_MAX, one_more};
 use keep_config::Config;
@@ -58,8 +58,7 @@ fn known_sources(alloc: Global, devices: usize, sources: &[u32]) -> Result<Vec<u
 }
 
 impl Steps for PullWorker {
-    ghost use Rattle.keep_workers.specs.Pulls.{IsPulling, PullMayAsk};
-    ghost use Rattle.std.specs.Prelude.{false};
+    ghost use Rattle.keep_workers.specs.Pulls.{IsPulling, PullMayAsk, is_write};
 
     ghost query_of = { λ w. w.query };
 
@@ -69,7 +68,7 @@ impl Steps for PullWorker {
 
     ghost may_ask = { PullMayAsk };
 
-    ghost sure = { λ w. false };
+    ghost sure = { λ w. is_write w.query };
 
     fn ended(&self) -> bool {
         self.ended
@@ -118,6 +117,7 @@ impl PullWorker {
         ensures moved { IfOk result (λ end. (c : Configuration) → (phase : ThePhase) → IsPullingFew self.old → IsInPhase self.old phase → self.old.devices ≡ length c.devices → PullMoves (by_device (pull_answered c phase) answer.now (pulling phase self.old)) self.new end) }
         ensures stays { IfOk result (λ _. SamePlace self.old self.new) }
         ensures askable { (devices : ℕ) → PullMayAsk self.old devices → PullMayAsk self.new devices }
+        ensures sure { is_write self.old.query ≡ true → IsOk result }
         ensures unchanged { OnErr result (self.new ≡ self.old) }
     {
         match answer {
@@ -131,6 +131,7 @@ impl PullWorker {
         ensures moved { IfOk result (λ end. (c : Configuration) → (phase : ThePhase) → IsPullingFew self.old → IsInPhase self.old phase → self.old.devices ≡ length c.devices → PullMoves (pull_answered c phase answer.now (pulling phase self.old)) self.new end) }
         ensures stays { IfOk result (λ _. SamePlace self.old self.new) }
         ensures askable { (devices : ℕ) → PullMayAsk self.old devices → PullMayAsk self.new devices }
+        ensures sure { is_write self.old.query ≡ true → IsOk result }
         ensures unchanged { OnErr result (self.new ≡ self.old) }
     {
         match &self.query {
