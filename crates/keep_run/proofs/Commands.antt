@@ -13,9 +13,9 @@ use Rattle.keep_history.specs.declared.task.TaskState.TheVariants as S
 use Rattle.keep_history.specs.Effects.{Scene, Effect, Made, Asked, Standing, open_effect, asked_effect, asked_in, asked_on, asking_effect, effect_of_command, state_of, state_after, event_lines, line_of_end, step_turns, finish_turns}
 use Rattle.keep_history.specs.Names.{at_name, with_name}
 use Rattle.keep_history.specs.Tasks.{opened, next}
-use Rattle.keep_tasks.specs.Running.{stands, has_ended, may_ask}
+use Rattle.keep_running.specs.Running.{stands, has_ended, may_ask}
 use Rattle.keep_tasks.specs.Steps.{IsOpened, IsReady}
-use Rattle.keep_tasks.specs.declared.running.Running.{Running}
+use Rattle.keep_running.specs.declared.running.AnyTask.{AnyTask}
 use Rattle.keep_tasks.specs.declared.steps.Opened.{Opened}
 use Rattle.keep_tasks.specs.declared.steps.Opened.TheVariants as P
 use Rattle.keep_run.specs.Asked.{HasAsked, DoesTurns, StopsTurns, asking, outcome_of, is_spent}
@@ -53,10 +53,10 @@ module _ (devices : ℕ) where
   put-askable T.Asks t h = h refl
   put-askable T.Spent t h = h refl
 
-abbrev pub Ready : Configuration → Running → Task → Type 0
+abbrev pub Ready : Configuration → AnyTask → Task → Type 0
 Ready config t task = IsReady (has_ended t) (stands t) (may_ask t) config task
 
-pub opened-askable : (config : Configuration) (r : Result Task Outcome) (o : Opened Running) (actor : ℕ) → IsOpened r o (Ready config) → IsAskableState (length config.devices) (state_opened actor o)
+pub opened-askable : (config : Configuration) (r : Result Task Outcome) (o : Opened AnyTask) (actor : ℕ) → IsOpened r o (Ready config) → IsAskableState (length config.devices) (state_opened actor o)
 opened-askable config (Ok task) (P.Task t) actor h = record { not_ended = h.0; devices_are = h.1.1 }
 opened-askable config (Err outcome) (P.Ended ended) actor h = after-askable (length config.devices) ended
 opened-askable config (Ok task) (P.Ended ended) actor h = absurd h
@@ -110,7 +110,7 @@ module _ {X : Type 0} (config : Configuration) (old new : Stage X) (scene : Scen
     names = subst (λ ns. SameNames (IsStanding config) ns (with_name name y scene.names)) (sym set) (same-with (IsStanding config) name x y rel old.names.entries scene.names sc.names);
   }
 
-  opens-by : (name : List ℕ) (reading : ℕ) (opening : Opening) (r : Result Task Outcome) (o : Opened Running) (actor : ℕ) (out_before out : List ℕ) → opened config opening reading ≡ r → IsOpened r o (Ready config) → actor ≡ length old.names.entries → new.cluster ≡ old.cluster → new.names.entries ≡ with_name name (state_opened actor o) old.names.entries → out ≡ out_before ++ text_opened name o → HasPrinted config scene old new out_before out false (opens name reading opening)
+  opens-by : (name : List ℕ) (reading : ℕ) (opening : Opening) (r : Result Task Outcome) (o : Opened AnyTask) (actor : ℕ) (out_before out : List ℕ) → opened config opening reading ≡ r → IsOpened r o (Ready config) → actor ≡ length old.names.entries → new.cluster ≡ old.cluster → new.names.entries ≡ with_name name (state_opened actor o) old.names.entries → out ≡ out_before ++ text_opened name o → HasPrinted config scene old new out_before out false (opens name reading opening)
   opens-by name reading opening (Ok task) (P.Task t) actor out_before out is h a same set e = record {
     done = record {
       effect = open_effect scene name (Ok task);
@@ -147,7 +147,7 @@ module _ {X : Type 0} (config : Configuration) (old new : Stage X) (scene : Scen
   opens-by name reading opening (Ok task) (P.Ended ended) actor out_before out is h a same set e = absurd h
   opens-by name reading opening (Err outcome) (P.Task t) actor out_before out is h a same set e = absurd h
 
-  pub does-open : (name : List ℕ) (reading : ℕ) (opening : Opening) (o : Opened Running) (actor : ℕ) (out_before out : List ℕ) → IsOpened (opened config opening reading) o (Ready config) → actor ≡ length old.names.entries → new.cluster ≡ old.cluster → new.names.entries ≡ with_name name (state_opened actor o) old.names.entries → out ≡ out_before ++ text_opened name o → HasPrinted config scene old new out_before out false (opens name reading opening)
+  pub does-open : (name : List ℕ) (reading : ℕ) (opening : Opening) (o : Opened AnyTask) (actor : ℕ) (out_before out : List ℕ) → IsOpened (opened config opening reading) o (Ready config) → actor ≡ length old.names.entries → new.cluster ≡ old.cluster → new.names.entries ≡ with_name name (state_opened actor o) old.names.entries → out ≡ out_before ++ text_opened name o → HasPrinted config scene old new out_before out false (opens name reading opening)
   does-open name reading opening o actor out_before out h a same set e = opens-by name reading opening (opened config opening reading) o actor out_before out refl h a same set e
 
   -- ---- names that are asked

@@ -20,7 +20,7 @@ use Rattle.keep_history.specs.Effects.{Made, Asked, Standing, asked_on, event_of
 use Rattle.keep_history.specs.Ended.{is_on, left_after}
 use Rattle.keep_history.specs.Next.{Answered, Next, asks, ends}
 use Rattle.keep_history.specs.Tasks.{next, is_fault}
-use Rattle.keep_tasks.specs.Running.{stands, query_of}
+use Rattle.keep_running.specs.Running.{stands, query_of}
 use Rattle.keep_tasks.specs.Steps.{IsAsked, IsReturned, AsksOnce, IsTaken, answered}
 use Rattle.keep_tasks.specs.declared.steps.Step.{Step}
 use Rattle.keep_run.specs.Asked.{HasAsked, PartAsked, port_view, asking, device_of, line_at}
@@ -30,7 +30,7 @@ use Rattle.keep_run.specs.declared.asking.Open.{Open}
 use Rattle.keep_run.specs.declared.asking.Turned.TheVariants as T
 use Rattle.keep_run.proofs.Events.{event-is}
 use Rattle.keep_run.proofs.Faults.{rise-none, rise-one}
-use Rattle.keep_run.proofs.Running.{running-asks}
+use Rattle.keep_run.proofs.Running.{any-asks}
 use Rattle.keep_run.proofs.Turns.{stopped, turns-end, turns-none, turn-spent-is, turn-event}
 
 -- an answer that is a fault of a store
@@ -89,7 +89,7 @@ module _ (config : Configuration) (old new : View) (w : World) (s : Standing) (o
   q = query_of open_old.task
 
   asks-next : next config s.task s.answers ≡ asks q
-  asks-next = running-asks open_old.task (next config s.task) s.answers standing.stands_there
+  asks-next = any-asks open_old.task (next config s.task) s.answers standing.stands_there
 
   f-asks : (failed : List ℕ) → asking 1 config old w s failed ≡ asked_on 1 config failed old.reading old.made w s (asks q)
   f-asks failed = ap (asked_on 1 config failed old.reading old.made w s) asks-next
@@ -196,7 +196,7 @@ module _ (config : Configuration) (old new : View) (w : World) (s : Standing) (o
         let there : stands open_new.task (next config s.task) after.answers = subst (stands open_new.task (next config s.task)) answers-are (taken (next config s.task) s.answers standing.stands_there) in
         record {
           asked = went None;
-          is = λ others agree. f-event others agree ∙ ap (λ nx. after_made m (asked_on zero config others old.reading (old.made + 1) m.left after nx)) (running-asks open_new.task (next config s.task) after.answers there)
+          is = λ others agree. f-event others agree ∙ ap (λ nx. after_made m (asked_on zero config others old.reading (old.made + 1) m.left after nx)) (any-asks open_new.task (next config s.task) after.answers there)
               ∙ ap (after_made m) (turns-none config others old.reading (old.made + 1) m.left after (query_of open_new.task));
           numbered = (refl, tt);
           rise = one.rise;

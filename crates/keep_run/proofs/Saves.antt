@@ -1,12 +1,14 @@
 -- A save that the table is asked for ends Saved exactly where it is good: `told-saves`.
 use Rattle.std.proofs.Common.{◌≡◌, ℕ, zero, suc, ◌+◌, Bool, true, false, List, [], ◌∷◌, ◌++◌, Option, None, Some, IfSome, refl, sym, subst, ap, ◌↔◌}
 use Rattle.std.specs.Prelude.{⊤, ◌==◌, IsTrue, option_map, if◌then◌else◌}
+use Rattle.std.specs.List.{AllByRecursion}
 use Rattle.keep_spec.specs.Config.{Configuration, token_of}
 use Rattle.keep_spec.specs.Lines.{cut, text_of}
 use Rattle.keep_spec.specs.declared.token.TokenId.{TokenId}
 use Rattle.keep_event.specs.Requests.{by_token, if_allowed, made_of, refusal_of_request, save}
 use Rattle.keep_event.specs.Table.{State, create}
 use Rattle.keep_event.specs.World.{World, asked}
+use Rattle.keep_event.specs.declared.device.DeviceAnswer.TheVariants as A
 use Rattle.keep_event.specs.declared.device.DeviceQuery.{DeviceQuery}
 use Rattle.keep_event.specs.declared.device.DeviceQuery.TheVariants as Q
 use Rattle.keep_event.specs.declared.event.Answer.{Answer}
@@ -34,6 +36,7 @@ use Rattle.keep_history.specs.Tasks.{next, walk, on_device, by_all, writes, comp
 use Rattle.keep_history.proofs.Collisions.{IsWorldOf, asked-world, new-world}
 use Rattle.keep_history.proofs.Lines.{AskedHas, Begins, CommandHas, GoesOn, SceneHas, both-some, line-gives, line-keeps, some-more}
 use Rattle.keep_history.proofs.Openings.{IsMade}
+use Rattle.keep_history.proofs.Rounds.{BlockHas, NextHas, balance-asks, trash-asks, pull-asks, empty-asks}
 use Rattle.keep_run.specs.Saves.{request_in, IsSaved, EndsSaved, IsExact, AreExact, LinesSave, GoodSavesAreMade}
 
 -- ---- the table's answer, and the end that it makes
@@ -93,7 +96,27 @@ abbrev SavesNext : Configuration → Answered → Next → Next → Type 0
 SavesNext c a (asks q) after = IfSome (request_in q) (λ r. after ≡ ends (table_end_of c (TQ.Save r) a.answer))
 SavesNext c a (ends outcome) after = ⊤
 
+-- a query that saves nothing
+abbrev AsksNoSave : Query → Type 0
+AsksNoSave q = request_in q ≡ None
+
+abbrev AnyBytes : List ℕ → Type 0
+AnyBytes bytes = ⊤
+
+block-any : (a : Answer) → BlockHas AnyBytes a
+block-any (An.Device (A.Block bytes)) = tt
+block-any _ = tt
+
+blocks-any : (answers : List Answered) → AllByRecursion (λ a. BlockHas AnyBytes a.answer) answers
+blocks-any [] = tt
+blocks-any (a ∷ answers) = (block-any a.answer, blocks-any answers)
+
 module _ (c : Configuration) (a : Answered) where
+  -- a balance and workers save nothing
+  quiet-saves : (nx after : Next) → NextHas AsksNoSave nx → SavesNext c a nx after
+  quiet-saves (asks q) after none = rw none tt
+  quiet-saves (ends outcome) after h = tt
+
   ends-or-saves : (o : Option Outcome) (nx nx' : Next) → SavesNext c a nx nx' → SavesNext c a (ends_or o nx) (ends_or o nx')
   ends-or-saves None nx nx' h = h
   ends-or-saves (Some o) nx nx' h = tt
@@ -125,6 +148,11 @@ module _ (c : Configuration) (a : Answered) where
   next-saves (T.Table TQ.Sweep) [] = tt
   next-saves (T.Table (TQ.Scan round after limit)) [] = tt
   next-saves (T.Table q) (b ∷ answers) = tt
+  next-saves T.Balance answers = quiet-saves (next c T.Balance answers) _ (balance-asks AsksNoSave c refl (λ d n. refl) (λ d n prefix. refl) (λ n after limit. refl) (λ d n lists. refl) answers)
+  next-saves (T.TrashWorker device) answers = quiet-saves (next c (T.TrashWorker device) answers) _ (trash-asks AsksNoSave device answers refl)
+  next-saves (T.PullWorker device) answers =
+      quiet-saves (next c (T.PullWorker device) answers) _ (pull-asks AnyBytes AsksNoSave device refl (λ d hash. refl) (λ bytes any. refl) c answers (blocks-any answers))
+  next-saves (T.EmptyWorker device) answers = quiet-saves (next c (T.EmptyWorker device) answers) _ (empty-asks AsksNoSave device answers refl)
 
 -- ---- asking
 
@@ -219,6 +247,10 @@ module _ (c : Configuration) (failed : List ℕ) where
   opening-any (Open.Trash token collection trash_at delete_at) = λ actor. tt
   opening-any (Open.Restore token collection) = λ actor. tt
   opening-any Open.Sweep = λ actor. tt
+  opening-any Open.Balance = λ actor. tt
+  opening-any (Open.TrashWorker device) = λ actor. tt
+  opening-any (Open.PullWorker device) = λ actor. tt
+  opening-any (Open.EmptyWorker device) = λ actor. tt
 
   command-any : (o : Option Command) → IfSome o (CommandHas c failed (IsWorldOf c) AnyStanding LineSaves)
   command-any None = tt

@@ -9,7 +9,7 @@ use Rattle.keep_history.specs.declared.task.Outcome.{Outcome}
 use Rattle.keep_history.specs.Effects.{Made, Asked, Standing, asked_on, event_lines, line_of}
 use Rattle.keep_history.specs.Ended.{left_after}
 use Rattle.keep_history.specs.Tasks.{next}
-use Rattle.keep_tasks.specs.Running.{query_of}
+use Rattle.keep_running.specs.Running.{query_of}
 use Rattle.keep_run.specs.Asked.{HasAsked, PartAsked, Turning, asking}
 use Rattle.keep_run.specs.Faults.{AreNumbered, Rise}
 use Rattle.keep_run.specs.Standing.{IsStanding}
@@ -18,7 +18,7 @@ use Rattle.keep_run.specs.declared.asking.Open.{Open}
 use Rattle.keep_run.specs.declared.asking.Turned.{Turned}
 use Rattle.keep_run.specs.declared.asking.Turned.TheVariants as T
 use Rattle.keep_run.proofs.Faults.{Agrees-left, Agrees-right, numbered-append, rise-none, rise-append, left-append}
-use Rattle.keep_run.proofs.Running.{running-asks}
+use Rattle.keep_run.proofs.Running.{any-asks}
 use Rattle.keep_run.proofs.Turns.{stopped, after-all-is, after-all-append, turns-none, turn-more, turn-over, turn-ended, turn-prefix}
 
 pub event-lines-append : (name : List ℕ) (a b : List Made) → event_lines name (a ++ b) ≡ event_lines name a ++ event_lines name b
@@ -169,7 +169,7 @@ module _ (config : Configuration) (old : View) (w : World) (s : Standing) (name 
     is = λ others agree.
         ap (λ n. asking n config old w s others) (plus-right turns)
         ∙ t.is others (Agrees-left others t.made [] agree) 0
-        ∙ ap (λ nx. after_all t.made (asked_on 0 config others old.reading (old.made + length t.made) t.world t.standing nx)) (running-asks open_now.task (next config t.standing.task) t.standing.answers t.stands_there.stands_there)
+        ∙ ap (λ nx. after_all t.made (asked_on 0 config others old.reading (old.made + length t.made) t.world t.standing nx)) (any-asks open_now.task (next config t.standing.task) t.standing.answers t.stands_there.stands_there)
         ∙ ap (after_all t.made) (turns-none config others old.reading (old.made + length t.made) t.world t.standing (query_of open_now.task))
         ∙ after-all-is t.made (stopped t.world t.standing None false);
     numbered = subst (AreNumbered old.made) (sym (append-nil t.made)) t.numbered;

@@ -15,7 +15,7 @@ use Rattle.keep_run.specs.Faults.{Agrees, AreNumbered, Rise}
 use Rattle.keep_run.specs.Scenes.{IsSceneOf}
 use Rattle.keep_history.specs.Names.{at_name}
 use Rattle.keep_history.specs.Printed.{end_line}
-use Rattle.keep_tasks.specs.declared.running.Running.{Running}
+use Rattle.keep_running.specs.declared.running.AnyTask.{AnyTask}
 use Rattle.keep_tasks.specs.declared.steps.Opened.{Opened}
 use Rattle.keep_tasks.specs.declared.steps.Opened.TheVariants as P
 use Rattle.keep_run.specs.declared.asking.Open.{Open}
@@ -104,16 +104,16 @@ IsAskingStopped turns config name reading old new = (scene : Scene) → IsSceneO
     IsStopped scene old.cluster new.cluster (λ failed. asking_effect turns config failed scene name reading (at_name name scene.names))
 
 -- what becomes of a name by an opening, and the line of its end
-abbrev pub state_opened : ℕ → Opened Running → TaskState Open
+abbrev pub state_opened : ℕ → Opened AnyTask → TaskState Open
 state_opened actor (P.Task t) = S.Open (record { task = t; actor = actor })
 state_opened actor (P.Ended outcome) = state_after outcome
 
-abbrev pub text_opened : List ℕ → Opened Running → List ℕ
+abbrev pub text_opened : List ℕ → Opened AnyTask → List ℕ
 text_opened name (P.Task t) = []
 text_opened name (P.Ended outcome) = end_line name outcome
 
 -- what becomes of a name whose task was asked
-abbrev pub state_put : Open → Turned → TaskState Open
+abbrev pub state_put : {T : Type 0} → T → Turned → TaskState T
 state_put open_task (T.Ended outcome) = state_after outcome
 state_put open_task T.Asks = S.Open open_task
 state_put open_task T.Spent = S.Open open_task

@@ -7,7 +7,7 @@ use Rattle.keep_history.specs.declared.task.TaskState.TheVariants as S
 use Rattle.keep_history.specs.Effects.{Standing}
 use Rattle.keep_history.specs.Names.{Named}
 use Rattle.keep_history.specs.Tasks.{next}
-use Rattle.keep_tasks.specs.Running.{stands, has_ended, may_ask}
+use Rattle.keep_running.specs.Running.{stands, has_ended, may_ask}
 use Rattle.keep_run.specs.Named.{SameNames}
 use Rattle.keep_run.specs.declared.asking.Open.{Open}
 

@@ -8,15 +8,16 @@ ghost use Rattle.keep_run.specs.Standing.{IsAskable};
 use keep_cluster::Cluster;
 use keep_event::{Answer, PortError, Query};
 use keep_history::Outcome;
+use keep_running::AnyTask;
 use keep_script::{push_event_line, push_table_event_line};
 use keep_spec::NoMemory;
 use keep_store::Store;
-use keep_tasks::{Running, Step, Steps};
+use keep_tasks::{Step, Steps};
 
 /// A task that has not ended, and who asks for it: the number of its opening among all openings, from 0.
 #[derive(Drop)]
 pub(crate) struct Open {
-    pub(crate) task: Running,
+    pub(crate) task: AnyTask,
     pub(crate) actor: u32,
 }
 
@@ -84,7 +85,7 @@ fn ask_once<S: Store>(
 /// events were made.
 pub(crate) fn ask_turns<S: Store>(
     cluster: &mut Cluster<'_, S>,
-    turns: u32,
+    turns: u64,
     open_task: &mut Open,
     name: &[u8],
     out: &mut Vec<u8>,

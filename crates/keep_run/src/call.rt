@@ -7,6 +7,7 @@ ghost use Rattle.keep_history.specs.Reads.{ReadsAreOfPuts};
 ghost use Rattle.keep_history.specs.Collisions.{CollisionsAreRefused};
 ghost use Rattle.keep_history.specs.Whole.{GoodTasksEndWell};
 ghost use Rattle.keep_history.specs.Finished.{FinishesEndTasks};
+ghost use Rattle.keep_history.specs.Ordered.{RunsAreOrdered};
 ghost use Rattle.keep_run.specs.Saves.{GoodSavesAreMade};
 ghost use Rattle.keep_run.specs.Stores.{told_by, count_of, devices_in, FirstTell, HasBegun, IsConfigRefusal, StoresRan, RanWhole};
 ghost use Rattle.keep_run.specs.Words.{is_run};
@@ -149,6 +150,7 @@ pub fn run_call<R: Source, W: Sink, S: Store>(
     ensures saves { IfSome (R.left source.old) (λ bytes. (failed : List ℕ) → GoodSavesAreMade (vec_len stores.old) failed bytes) }
     ensures good_tasks { IfSome (R.left source.old) (λ bytes. (failed : List ℕ) → GoodTasksEndWell (vec_len stores.old) failed bytes) }
     ensures finished { IfSome (R.left source.old) (λ bytes. (failed : List ℕ) → FinishesEndTasks (vec_len stores.old) failed bytes) }
+    ensures ordered { IfSome (R.left source.old) (λ bytes. (failed : List ℕ) → RunsAreOrdered (vec_len stores.old) failed bytes) }
     ensures whole { is_run words.now ≡ true → (bytes : List ℕ) → (starts : List Kept) → R.left source.old ≡ Some bytes
         → FirstTell (devices_in (vec_len stores.old) bytes) (told_by S.held S.noted S.faults stores.old.items) starts
         → RanWhole (told_by S.held S.noted S.faults stores.old.items) (told_by S.held S.noted S.faults stores.new.items) bytes (W.taken sink.old) starts result (R.left source.new) (W.taken sink.new) }

@@ -17,18 +17,19 @@ use crate::asking::{Open, Turned, ask_turns};
 use keep_cluster::Cluster;
 use keep_config::Config;
 use keep_history::{Command, Opening, Outcome, TaskState};
+use keep_running::{AnyTask, open_any};
 use keep_script::push_end_line;
 use keep_spec::{Bytes, NoMemory};
 use keep_store::Store;
-use keep_tasks::{Opened, Running, open_task};
+use keep_tasks::Opened;
 use std::alloc::Global;
 use std::collections::BTreeMap;
 
 // A step asks once.
-const STEP_TURNS: u32 = 1;
+const STEP_TURNS: u64 = 1;
 
-// A task asks each of at most 64 devices twice, so none asks more often.
-const FINISH_TURNS: u32 = 128;
+// A finish has one turn more than there may be events, so that it stops where its task ends or where no event is left.
+const FINISH_TURNS: u64 = 1_099_511_627_777;
 
 /// What stands between two lines of a run: the devices and the table, and what has become of each name.
 #[derive(Drop)]
@@ -48,7 +49,7 @@ pub(crate) enum Done {
     Refused,
 }
 
-fn state_after(outcome: Outcome) -> TaskState<Open>
+fn state_after<T: Drop>(outcome: Outcome) -> TaskState<T>
     ensures { result ≡ state_after outcome }
 {
     match outcome {
@@ -73,12 +74,13 @@ fn open_task_of(state: Option<TaskState<Open>>) -> Option<Open>
     }
 }
 
-// Sets what has become of a name's task, and returns what had become of it before.
-fn set_name(
-    names: &mut BTreeMap<Bytes, TaskState<Open>>,
+// Sets what has become of a name's task, and returns what had become of it before. It is generic, as are those that let a task go, so that what the kinds of
+// task have is of no matter to their proofs.
+fn set_name<T: Drop>(
+    names: &mut BTreeMap<Bytes, TaskState<T>>,
     name: Bytes,
-    state: TaskState<Open>,
-) -> Result<Option<TaskState<Open>>, NoMemory>
+    state: TaskState<T>,
+) -> Result<Option<TaskState<T>>, NoMemory>
     ensures previous { IfOk result (λ old. old ≡ at_name name names.old.entries) }
     ensures set { OnOk result (names.new.entries ≡ with_name name state names.old.entries) }
     ensures unchanged { OnErr result (names.new.entries ≡ names.old.entries) }
@@ -90,9 +92,25 @@ fn set_name(
     }
 }
 
+// Sets what has become of a name's task, and lets go what had become of it before.
+fn replace_state<T: Drop>(
+    names: &mut BTreeMap<Bytes, TaskState<T>>,
+    name: Bytes,
+    state: TaskState<T>,
+) -> Result<(), NoMemory>
+    ensures set { OnOk result (names.new.entries ≡ with_name name state names.old.entries) }
+    ensures one_more { length names.new.entries ≤ length names.old.entries + 1 }
+{
+    let _ = set_name(names, name, state)?;
+    Ok(())
+}
+
+// Lets a task go.
+fn let_go<T: Drop>(_task: T) {}
+
 // What becomes of a name by an opening. Appends the line of an end at once.
 fn state_opened(
-    opened: Opened<Running>,
+    opened: Opened<AnyTask>,
     actor: u32,
     name: &[u8],
     out: &mut Vec<u8>,
@@ -132,17 +150,17 @@ fn open_named<S: Store>(
     ensures same_cluster { stage.new.cluster ≡ stage.old.cluster }
 {
     let actor = stage.names.len() as u32;
-    let opened = open_task(alloc, config, opening, reading)?;
+    let opened = open_any(alloc, config, opening, reading)?;
     let state = state_opened(opened, actor, name.as_slice(), out)?;
-    let _ = set_name(&mut stage.names, name, state)?;
+    replace_state(&mut stage.names, name, state)?;
     Ok(Done::Whole)
 }
 
 // Sets what became of a name whose task was asked, and appends the line of its end.
-fn put_back(
-    names: &mut BTreeMap<Bytes, TaskState<Open>>,
+fn put_back<T: Drop>(
+    names: &mut BTreeMap<Bytes, TaskState<T>>,
     name: Bytes,
-    open_task: Open,
+    open_task: T,
     turned: Turned,
     out: &mut Vec<u8>,
 ) -> Result<Done, NoMemory>
@@ -154,15 +172,15 @@ fn put_back(
     match turned {
         Turned::Ended { outcome } => {
             push_end_line(out, name.as_slice(), &outcome)?;
-            let _ = set_name(names, name, state_after(outcome))?;
+            replace_state(names, name, state_after(outcome))?;
             Ok(Done::Whole)
         }
         Turned::Asks => {
-            let _ = set_name(names, name, TaskState::Open { task: open_task })?;
+            replace_state(names, name, TaskState::Open { task: open_task })?;
             Ok(Done::Whole)
         }
         Turned::Spent => {
-            let _ = set_name(names, name, TaskState::Open { task: open_task })?;
+            replace_state(names, name, TaskState::Open { task: open_task })?;
             Ok(Done::Spent)
         }
     }
@@ -171,7 +189,7 @@ fn put_back(
 // Asks a task up to so many times at a reading, and returns it as it stands, and how its turns stopped.
 fn ask_at<S: Store>(
     cluster: &mut Cluster<'_, S>,
-    turns: u32,
+    turns: u64,
     reading: u64,
     mut open_task: Open,
     name: &[u8],
@@ -186,8 +204,13 @@ fn ask_at<S: Store>(
     ensures never_fall { NoneFalls (faults_at cluster.old.devices) (faults_at cluster.new.devices) }
 {
     cluster.set_reading(reading);
-    let turned = ask_turns(cluster, turns, &mut open_task, name, out)?;
-    Ok((open_task, turned))
+    match ask_turns(cluster, turns, &mut open_task, name, out) {
+        Ok(turned) => Ok((open_task, turned)),
+        Err(NoMemory) => {
+            let_go(open_task);
+            Err(NoMemory)
+        }
+    }
 }
 
 // Asks the open task of a name up to so many times.
@@ -195,7 +218,7 @@ fn ask_named<S: Store>(
     alloc: Global,
     config: &Config,
     stage: &mut Stage<'_, S>,
-    turns: u32,
+    turns: u64,
     name: Bytes,
     reading: u64,
     out: &mut Vec<u8>,

@@ -1,4 +1,4 @@
-mod Empties
+pub mod Empties
 mod Moving
-mod Pulls
-mod Trashes
+pub mod Pulls
+pub mod Trashes

@@ -1,5 +1,5 @@
 use Rattle.std.proofs.Common.{refl, ◌∙◌, ap, ◌++◌}
-use Rattle.keep_tasks.specs.Running.{sure}
+use Rattle.keep_running.specs.Running.{sure}
 use Rattle.keep_run.specs.Asked.{StopsTurns, device_of, line_at}
 use Rattle.keep_run.proofs.Facts.{on_err}
 use Rattle.keep_run.proofs.Queries.{turn-spent, turn-refused, turn-part, turn-ends, turn-asks}

@@ -3,6 +3,7 @@ use Rattle.keep_history.proofs.Collisions.{told-collisions}
 use Rattle.keep_history.proofs.Finished.{told-finishes}
 use Rattle.keep_history.proofs.GetsOfPuts.{told-reads}
 use Rattle.keep_history.proofs.GoodTasks.{told-good-tasks}
+use Rattle.keep_history.proofs.Ordered.{told-ordered}
 use Rattle.keep_run.proofs.Inputs.{whole-ran}
 use Rattle.keep_run.proofs.Saves.{told-saves}
 use Rattle.keep_run.proofs.call.run_call.Goals as goal
@@ -39,3 +40,9 @@ returns-then-not-is_run-clause-finished g c = told-finishes _ _
 
 pub returns-clause-finished : goal.returns-clause-finished
 returns-clause-finished g c = told-finishes _ _
+
+pub returns-then-not-is_run-clause-ordered : goal.returns-then-not-is_run-clause-ordered
+returns-then-not-is_run-clause-ordered g c = told-ordered _ _
+
+pub returns-clause-ordered : goal.returns-clause-ordered
+returns-clause-ordered g c = told-ordered _ _
