@@ -194,7 +194,7 @@ impl PlainDevice {
     pub fn page(&self, round: u64, prefix: &[u8]) -> Result<DeviceAnswer, NoMemory>
         ensures line { IsLine (machine.page prefix.now round self.now) self.now self.now result }
     {
-        if round != self.round {
+        if self.round != round {
             return Ok(DeviceAnswer::Stale { held: self.round });
         }
         let entries = page(self.alloc, &self.held, prefix)?;
