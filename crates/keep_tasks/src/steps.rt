@@ -54,7 +54,8 @@ pub trait Steps {
     /// Whether a port of so many devices has those that it asks.
     ghost may_ask: { Self → ℕ → Type 0 };
 
-    /// Whether no end of it wants memory, where the answer is listed for its query. Ends that carry a text as long as an answer do.
+    /// Whether it takes each answer that is listed for its query without want of memory. An end that carries a text as long as an answer wants memory, and so
+    /// does what a pull or a balance keeps of an answer.
     ghost sure: { Self → Bool };
 
     /// Whether the task has ended. Then it is asked no more.
@@ -76,8 +77,8 @@ pub trait Steps {
         ensures sure { sure self.old ≡ true → IsAnswerOf (query_of self.old) reply.now.answer → IsOk result }
         ensures unchanged { OnErr result (self.new ≡ self.old) };
 
-    /// Asks the one query that comes next. The port has the task's devices. After an error the task is as before; the query was asked only where the
-    /// end of its answer wanted memory.
+    /// Asks the one query that comes next. The port has the task's devices. After an error the task is as before; the query was asked only where
+    /// taking its answer wanted memory.
     final fn step<P: Port>(&mut self, actor: u32, port: &mut P) -> Result<Step, PortError>
         requires open { has_ended self.old ≡ false }
         requires askable { may_ask self.old (P.devices port.old) }
