@@ -29,7 +29,7 @@ use Rattle.keep_rounds.proofs.Left.{left, step-falls, records-stay}
 use Rattle.keep_rounds.proofs.Theorem.{task-own}
 
 -- ---- the devices that a balance task asks are there
-abbrev IsThere : Configuration → Query → Type 0
+abbrev pub IsThere : Configuration → Query → Type 0
 IsThere c (Q.Device d q) = d < length c.devices
 IsThere c (Q.Table q) = Unit {0}
 
@@ -42,7 +42,7 @@ page-there c x i =
     let a = in-map (page_on o.from) x (prefixes c.index_digits) o.has in
     subst (λ (v : ℕ × List ℕ). v.0 < length c.devices) (sym a.is) (device-there c o.from o.member)
 
-asked-there : (c : Configuration) (o : Option ℕ) (g : Round) (k : List Bool) (q : Query) → Asked c o g k q → IsThere c q
+pub asked-there : (c : Configuration) (o : Option ℕ) (g : Round) (k : List Bool) (q : Query) → Asked c o g k q → IsThere c q
 asked-there c o g k q (begins none is) = subst (IsThere c) (sym is) tt
 asked-there c o g k q (clears r d ds some left is) = subst (IsThere c) (sym is) (device-there c d (next-in (length g.cleared) (device_numbers c) d ds left))
 asked-there c o g k q (pages r d prefix xs some cleared left is) = subst (IsThere c) (sym is) (page-there c (page_on d prefix) (next-in (length g.pages) (all_pages c) (page_on d prefix) xs left))
