@@ -32,7 +32,7 @@ balance-forward c answers = ap (balance_next c) (forward c [] answers ∙ ap (st
 
 -- ---- more tasks are known
 module _ (c : Configuration) (task_of : Event → ℕ) (balances others : ℕ → Bool) where
-  replies-same : (n : ℕ) (past : Past) → replies_to c task_of balances n past ≡ replies_to c task_of others n past
+  pub replies-same : (n : ℕ) (past : Past) → replies_to c task_of balances n past ≡ replies_to c task_of others n past
   replies-same n [] = refl
   replies-same n (e ∷ past) = ap (λ (r : List Answered). if task_of e == n then record { tick = e.tick; answer = e.answer } ∷ r else r) (replies-same n past)
 
