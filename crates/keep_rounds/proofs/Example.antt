@@ -1,4 +1,4 @@
--- Two balance tasks at the same time: the first begins its round before the second and is round_refused by a device that the second has cleared; the second comes to its end.
+-- Two balance tasks at the same time: the first begins its round before the second and is refused by a device that the second has cleared; the second comes to its end.
 use Rattle.std.proofs.Common.{◌≡◌, ℕ, [], ◌∷◌, Bool, true, false, refl, arith, inl}
 use Rattle.keep_event.specs.Device as machine
 use Rattle.keep_event.specs.Table as tables
