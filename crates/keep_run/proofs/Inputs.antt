@@ -1,4 +1,4 @@
--- The run of a whole input over all stores, from what its lines did: `start-world`, `ran-lines`, `ran-refused`; and where no line is done `ran-none`, `ran-error`, `ran-unread`; `whole-ran` on a script.
+-- The run of a whole input over all stores, from what its lines did: `start-world`, `ran-lines`, `ran-refused`; and where no line is done `ran-none`, `ran-error`, `ran-unread`; `well-ran` of each run.
 use Rattle.std.proofs.Common.{◌≡◌, ℕ, zero, suc, ◌+◌, ◌<◌, ◌≤◌, true, List, [], ◌∷◌, ◌++◌, length, Option, None, Some, Ok, Err, ◌⊎◌, inl, inr, refl, sym, ◌∙◌, ap, subst, arith, append_assoc}
 use Rattle.std.specs.Prelude.{◌==◌, map, take, drop, option_map}
 use Rattle.std.specs.Option.{option_map_or}
@@ -25,9 +25,10 @@ use Rattle.keep_history.specs.Effects.{Made}
 use Rattle.keep_history.specs.Ended.{AreRead, Begun, HowEnded, IsBetween, IsOwn, OneMore, RiseFrom, RisesBy, Work, begun_of, done_after, faults_on, faulty, place_after, script_place, work_of}
 use Rattle.keep_history.specs.Run.{Kept, at_start, config_for, first_filled, is_empty, kept_by, left_in, run_lines, run_of, run_opened, run_pieces, verdict_on}
 use Rattle.keep_history.proofs.Scripts.{ends-whole}
+use Rattle.keep_rounds.proofs.Ended.{ended-well}
 use Rattle.keep_run.specs.Going.{status_of_line}
 use Rattle.keep_run.specs.Runs.{AreDone, Beginning, Did, HowLinesEnded, IsRunOut, LineMore, LinesRan, beginning}
-use Rattle.keep_run.specs.Stores.{AllPairs, AreBare, AreGiven, AreOpened, AreRefused, FirstTell, HasBegun, IsConfigRefusal, IsFilledAt, IsGiven, IsOver, IsSame, RanWhole, StoresRan, Tells, Told, counts, devices_in}
+use Rattle.keep_run.specs.Stores.{AllPairs, AreBare, AreGiven, AreOpened, AreRefused, FirstTell, HasBegun, IsConfigRefusal, IsFilledAt, IsGiven, IsOver, IsSame, RanWell, StoresRan, Tells, Told, counts, devices_in}
 use Rattle.keep_run.proofs.OpenedStores.{over-note, pairs-length, same-all, told-round}
 use Rattle.keep_cluster.proofs.Devices.{told-is, told-note}
 use Rattle.keep_run.proofs.Pieces.{newlines-append, read-more, read-start}
@@ -512,10 +513,11 @@ module _ {S : Type 0} (told : S → Told) (bytes : List ℕ) (before : Option (L
       ran-misfit told bytes before starts old tell-told status unread written g.piece (cut rest) w g.first (subst (λ x. verdict_of 1048576 1073741824 0 (length x) (length g.piece) ≡ fits) g.text_is g.fits_in)
       (subst (λ k. IsConfigRefusal status (config_for k (text_of g.piece))) told-n (subst (λ x. IsConfigRefusal status (config_for n x)) g.text_is r))
 
--- ---- a whole script
+-- ---- the headline
 
-pub whole-ran : (old new : List Told) (bytes : List ℕ) (before : Option (List ℕ)) (starts : List Kept) (status : Status) (unread written : Option (List ℕ)) → StoresRan old new bytes before starts status unread written → RanWhole old new bytes before starts status unread written
-whole-ran old new bytes before starts status unread written r = record {
+pub well-ran : (old new : List Told) (bytes : List ℕ) (before : Option (List ℕ)) (starts : List Kept) (status : Status) (unread written : Option (List ℕ)) → StoresRan old new bytes before starts status unread written → RanWell old new bytes before starts status unread written
+well-ran old new bytes before starts status unread written r = record {
   ran = r;
+  did_well = ended-well r.ran.failed starts bytes status unread r.work r.ran.how;
   whole = λ s. ends-whole status (faulty r.work.made) starts bytes unread r.work s (subst (λ f. HowEnded status f starts bytes unread r.work) r.ran.failed_are r.ran.how);
 }

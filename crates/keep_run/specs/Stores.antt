@@ -14,6 +14,7 @@ use Rattle.keep_event.specs.declared.device.DeviceRules.{DeviceRules}
 use Rattle.keep_history.specs.Ended.{Begun, Ran, RisesBy, Work, begun_of, faulty}
 use Rattle.keep_history.specs.Run.{Kept, config_for, is_empty, verdict_on}
 use Rattle.keep_history.specs.Whole.{EndsWhole, IsScript}
+use Rattle.keep_rounds.specs.Histories.{DidWell}
 use Rattle.keep_volume.specs.Calls.{VolumeView, note_of}
 
 -- ---- what a store tells
@@ -159,9 +160,11 @@ pub record StoresRan (old new : List Told) (bytes : List ℕ) (before : Option (
   pub written_is : Appends before written work.text
   pub ran : Ran starts bytes status unread (counts old) (counts new) work
 
--- where all lines are script lines, with the events that failed, the run is done, or memory was wanted, or the source, the sink or a store at opening failed
-pub record RanWhole (old new : List Told) (bytes : List ℕ) (before : Option (List ℕ)) (starts : List Kept) (status : Status) (unread : Option (List ℕ)) (written : Option (List ℕ)) : Type 0 where
+-- THE HEADLINE
+-- Such a run, and of what it did, the one history that it printed and left: each beginning of it may happen, each trash step left enough, and where it is steady and unforged each moment is safe; the devices' stores keep what it leaves. Where all lines are script lines, with the events that failed, the run is done, or memory was wanted, or the source, the sink or a store at opening failed.
+pub record RanWell (old new : List Told) (bytes : List ℕ) (before : Option (List ℕ)) (starts : List Kept) (status : Status) (unread : Option (List ℕ)) (written : Option (List ℕ)) : Type 0 where
   pub ran : StoresRan old new bytes before starts status unread written
+  pub did_well : DidWell starts bytes ran.work
   pub whole : IsScript (faulty ran.work.made) starts bytes → EndsWhole status
 
 -- the first line of an input is a configuration for so many stores, and these bytes come after it. For private clauses.

@@ -9,7 +9,7 @@ ghost use Rattle.keep_history.specs.Whole.{GoodTasksEndWell};
 ghost use Rattle.keep_history.specs.Finished.{FinishesEndTasks};
 ghost use Rattle.keep_history.specs.Ordered.{RunsAreOrdered};
 ghost use Rattle.keep_run.specs.Saves.{GoodSavesAreMade};
-ghost use Rattle.keep_run.specs.Stores.{told_by, count_of, devices_in, FirstTell, HasBegun, IsConfigRefusal, StoresRan, RanWhole};
+ghost use Rattle.keep_run.specs.Stores.{told_by, count_of, devices_in, FirstTell, HasBegun, IsConfigRefusal, StoresRan, RanWell};
 ghost use Rattle.keep_run.specs.Words.{is_run};
 ghost use Rattle.keep_spec.specs.declared.config.Field.{Field as TheField};
 
@@ -144,16 +144,13 @@ pub fn run_call<R: Source, W: Sink, S: Store>(
     ensures words { (result ≡ Status.BadWords) ↔ (is_run words.now ≡ false) }
     ensures headline { is_run words.now ≡ true → (bytes : List ℕ) → (starts : List Kept) → R.left source.old ≡ Some bytes
         → FirstTell (devices_in (vec_len stores.old) bytes) (told_by S.held S.noted S.faults stores.old.items) starts
-        → StoresRan (told_by S.held S.noted S.faults stores.old.items) (told_by S.held S.noted S.faults stores.new.items) bytes (W.taken sink.old) starts result (R.left source.new) (W.taken sink.new) }
+        → RanWell (told_by S.held S.noted S.faults stores.old.items) (told_by S.held S.noted S.faults stores.new.items) bytes (W.taken sink.old) starts result (R.left source.new) (W.taken sink.new) }
     ensures reads { IfSome (R.left source.old) (λ bytes. (failed : List ℕ) → ReadsAreOfPuts (vec_len stores.old) failed bytes) }
     ensures collisions { IfSome (R.left source.old) (λ bytes. (failed : List ℕ) → CollisionsAreRefused (vec_len stores.old) failed bytes) }
     ensures saves { IfSome (R.left source.old) (λ bytes. (failed : List ℕ) → GoodSavesAreMade (vec_len stores.old) failed bytes) }
     ensures good_tasks { IfSome (R.left source.old) (λ bytes. (failed : List ℕ) → GoodTasksEndWell (vec_len stores.old) failed bytes) }
     ensures finished { IfSome (R.left source.old) (λ bytes. (failed : List ℕ) → FinishesEndTasks (vec_len stores.old) failed bytes) }
     ensures ordered { IfSome (R.left source.old) (λ bytes. (failed : List ℕ) → RunsAreOrdered (vec_len stores.old) failed bytes) }
-    ensures whole { is_run words.now ≡ true → (bytes : List ℕ) → (starts : List Kept) → R.left source.old ≡ Some bytes
-        → FirstTell (devices_in (vec_len stores.old) bytes) (told_by S.held S.noted S.faults stores.old.items) starts
-        → RanWhole (told_by S.held S.noted S.faults stores.old.items) (told_by S.held S.noted S.faults stores.new.items) bytes (W.taken sink.old) starts result (R.left source.new) (W.taken sink.new) }
     ensures len { vec_len stores.new ≡ vec_len stores.old }
     ensures others { is_run words.now ≡ true → (bytes : List ℕ) → R.left source.old ≡ Some bytes → drop (devices_in (vec_len stores.old) bytes) stores.new.items ≡ drop (devices_in (vec_len stores.old) bytes) stores.old.items }
     ensures untouched { result ≡ Status.BadWords → (stores.new ≡ stores.old) × (source.new ≡ source.old) × (sink.new ≡ sink.old) }

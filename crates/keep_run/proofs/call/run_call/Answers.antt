@@ -4,9 +4,12 @@ use Rattle.keep_history.proofs.Finished.{told-finishes}
 use Rattle.keep_history.proofs.GetsOfPuts.{told-reads}
 use Rattle.keep_history.proofs.GoodTasks.{told-good-tasks}
 use Rattle.keep_history.proofs.Ordered.{told-ordered}
-use Rattle.keep_run.proofs.Inputs.{whole-ran}
+use Rattle.keep_run.proofs.Inputs.{well-ran}
 use Rattle.keep_run.proofs.Saves.{told-saves}
 use Rattle.keep_run.proofs.call.run_call.Goals as goal
+
+pub returns-clause-headline : goal.returns-clause-headline
+returns-clause-headline g c = λ words bytes starts left tell. well-ran _ _ bytes _ starts _ _ _ (search rules)
 
 pub returns-then-not-is_run-clause-reads : goal.returns-then-not-is_run-clause-reads
 returns-then-not-is_run-clause-reads g c = told-reads _ _
@@ -25,9 +28,6 @@ returns-then-not-is_run-clause-good_tasks g c = told-good-tasks _ _
 
 pub returns-clause-good_tasks : goal.returns-clause-good_tasks
 returns-clause-good_tasks g c = told-good-tasks _ _
-
-pub returns-clause-whole : goal.returns-clause-whole
-returns-clause-whole g c = λ words bytes starts left tell. whole-ran _ _ bytes _ starts _ _ _ (search rules)
 
 pub returns-then-not-is_run-clause-saves : goal.returns-then-not-is_run-clause-saves
 returns-then-not-is_run-clause-saves g c = told-saves _ _
