@@ -13,7 +13,7 @@ use Rattle.keep_history.specs.declared.task.Opening.TheVariants as Open
 use Rattle.keep_history.specs.declared.task.Outcome.{Outcome}
 use Rattle.keep_history.specs.declared.task.Task.TheVariants as T
 use Rattle.keep_history.proofs.Going.{goes-after, goes-asks}
-use Rattle.keep_tasks.specs.Steps.{IsReady, IsTaken}
+use Rattle.keep_steps.specs.Steps.{IsReady, IsTaken}
 use Rattle.keep_balance.specs.Gathering.{BalanceMayAsk}
 use Rattle.keep_balance.specs.Standing.{IsAfter, Shows, ShowsAt, Stands}
 use Rattle.keep_balance.specs.declared.task.BalanceTask.{BalanceTask}

@@ -10,7 +10,7 @@ use keep_event::{Answer, Query, Reply, TableQuery};
 use keep_gather::Gather;
 use keep_history::Outcome;
 use keep_spec::NoMemory;
-use keep_tasks::{Opened, Steps};
+use keep_steps::{Opened, Steps};
 use std::alloc::Global;
 
 impl Steps for BalanceTask {
@@ -49,7 +49,7 @@ impl BalanceTask {
     ghost use Rattle.keep_history.specs.declared.task.Opening.{Opening as TheOpening};
     ghost use Rattle.keep_balance.specs.Gathering.{is_sure};
     ghost use Rattle.keep_balance.specs.Standing.{given, IsAfter, Shows};
-    ghost use Rattle.keep_tasks.specs.Steps.{IsOpened, IsReady};
+    ghost use Rattle.keep_steps.specs.Steps.{IsOpened, IsReady};
 
     /// Opens a balance round. It keeps a copy of the configuration, and never ends at once. NoMemory is the only error.
     pub fn open(alloc: Global, config: &Config) -> Result<Opened<BalanceTask>, NoMemory>

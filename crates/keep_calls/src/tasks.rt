@@ -18,10 +18,9 @@ use keep_event::{Answer as Reply, FailingPort, Port, PortError, Query, TableQuer
 use keep_history::Outcome;
 use keep_script::{push_end_line, push_event_line, push_table_event_line};
 use keep_spec::{Bytes, NoMemory};
+use keep_steps::{Opened, Step, Steps};
 use keep_store::MemoryStore;
-use keep_tasks::{
-    GetTask, Opened, PutTask, RestartTask, Step, Steps, TableTask, TouchTask, UntrashTask,
-};
+use keep_tasks::{GetTask, PutTask, RestartTask, TableTask, TouchTask, UntrashTask};
 use keep_volume::Volume;
 use std::alloc::Global;
 use std::str::from_utf8;

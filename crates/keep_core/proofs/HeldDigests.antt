@@ -11,8 +11,8 @@ use Rattle.keep_order.proofs.Lists.{Joins, in-joined, joined-in, in-filter, filt
 use Rattle.keep_core.specs.declared.held.Held.{Held}
 use Rattle.keep_core.specs.declared.held.Tracked.{Tracked}
 use Rattle.keep_core.specs.declared.held.Version.{Version}
-use Rattle.keep_core.specs.Past.{Past}
-use Rattle.keep_core.specs.Rows.{rows, refs}
+use Rattle.keep_safety.specs.Past.{Past}
+use Rattle.keep_safety.specs.Rows.{rows, refs}
 use Rattle.keep_core.specs.Seen.{version_of, named_by, last_sweep, last_swept, passed, outlives_by, tracked_of, left, named_where, named_left, Tracks, IsKnown}
 use Rattle.keep_core.proofs.HeldVersions.{is_of, left-alike}
 use Rattle.keep_core.proofs.LiveDigests.{named_as}

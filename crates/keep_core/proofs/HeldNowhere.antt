@@ -4,18 +4,18 @@ use Rattle.std.specs.List.{find, list_any}
 use Rattle.std.proofs.lemmas.List.Folds.{list_any-append}
 use Rattle.keep_spec.specs.Config.{Configuration}
 use Rattle.keep_spec.specs.Members.{numbers_from}
-use Rattle.keep_core.specs.Allowed.{IsAllowed}
-use Rattle.keep_core.specs.Holds.{holds}
+use Rattle.keep_safety.specs.Allowed.{IsAllowed}
+use Rattle.keep_safety.specs.Holds.{holds}
 use Rattle.keep_core.specs.Judged.{IsJudged, is_first, lacks}
-use Rattle.keep_core.specs.Past.{Past}
-use Rattle.keep_core.specs.Safe.{IsSafe, IsSafeThroughout}
-use Rattle.keep_core.specs.Signatures.{IsUnforged}
-use Rattle.keep_core.specs.Times.{IsSteady}
+use Rattle.keep_safety.specs.Past.{Past}
+use Rattle.keep_safety.specs.Safe.{IsSafe, IsSafeThroughout}
+use Rattle.keep_safety.specs.Signatures.{IsUnforged}
+use Rattle.keep_safety.specs.Times.{IsSteady}
 use Rattle.keep_core.specs.Unheld.{unheld}
 use Rattle.keep_core.specs.declared.judging.Unsafe.{Unsafe}
 use Rattle.keep_core.specs.declared.judging.Unsafe.TheVariants.{Unheld, NoMemory}
 use Rattle.keep_core.proofs.Numbers.{numbers-next}
-use Rattle.keep_core.proofs.Theorem.{theorem}
+use Rattle.keep_safety.proofs.Theorem.{theorem}
 use Rattle.keep_core.proofs.Unheld.{none-safe, safe-none, some-least}
 
 -- ---- what is left

@@ -23,11 +23,11 @@ use Rattle.keep_event.specs.declared.event.Answer.TheVariants as A
 use Rattle.keep_core.specs.declared.held.Change.{Change}
 use Rattle.keep_core.specs.declared.held.Change.TheVariants as C
 use Rattle.keep_core.specs.declared.held.Held.{Held}
-use Rattle.keep_core.specs.declared.held.Superseded.{Superseded}
+use Rattle.keep_safety.specs.declared.superseded.Superseded.{Superseded}
 use Rattle.keep_core.specs.declared.held.Tracked.{Tracked}
 use Rattle.keep_core.specs.declared.held.Version.{Version}
-use Rattle.keep_core.specs.Past.{Past}
-use Rattle.keep_core.specs.Rows.{Row, rows, delete_at, deleted_by, rows_after, superseded_by, stays_at_update, stays_at_sweep, is_past, is_over}
+use Rattle.keep_safety.specs.Past.{Past}
+use Rattle.keep_safety.specs.Rows.{Row, rows, delete_at, deleted_by, rows_after, superseded_by, stays_at_update, stays_at_sweep, is_past, is_over}
 use Rattle.keep_core.specs.Seen.{version_of, superseded, stays, updated, new_version, with_made, change_of, last_sweep, swept_by, sweep_after, last_swept, passed, was_past, was_over, outlives_by, tracked_of, left, tracked_after, Tracks, IsKnown}
 
 -- ---- what an event changes

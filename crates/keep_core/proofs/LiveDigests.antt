@@ -20,12 +20,12 @@ use Rattle.keep_event.specs.declared.event.Query.TheVariants as Q
 use Rattle.keep_event.specs.declared.event.Answer.{Answer}
 use Rattle.keep_event.specs.declared.event.Answer.TheVariants as A
 use Rattle.keep_order.proofs.Lists.{Joins, in-left, in-right, in-either, in-joined, joined-in}
-use Rattle.keep_core.specs.Past.{Past}
-use Rattle.keep_core.specs.Rows.{Row, refs}
-use Rattle.keep_core.specs.Safe.{protected}
+use Rattle.keep_safety.specs.Past.{Past}
+use Rattle.keep_safety.specs.Rows.{Row, refs}
+use Rattle.keep_safety.specs.Safe.{protected}
 use Rattle.keep_core.specs.Seen.{version_of, named_by, is_live_at, with_token, put_digest, if_live, live_at, live_put, live_read, live_by, live_of}
-use Rattle.keep_core.specs.Signatures.{Signature, digest_named, token_carried, time_told, put_signature, signatures_on, read_signatures, signatures_of, issued, live}
-use Rattle.keep_core.specs.Times.{now}
+use Rattle.keep_safety.specs.Signatures.{Signature, digest_named, token_carried, time_told, put_signature, signatures_on, read_signatures, signatures_of, issued, live}
+use Rattle.keep_safety.specs.Times.{now}
 
 -- ---- versions
 pub named_as : (rs : List Row) → named_by (map version_of rs) ≡ flat_map (λ r. r.made.named) rs

@@ -11,11 +11,11 @@ use Rattle.keep_event.specs.declared.event.Query.TheVariants as Q
 use Rattle.keep_event.specs.declared.event.Answer.{Answer}
 use Rattle.keep_event.specs.declared.event.Answer.TheVariants as A
 use Rattle.keep_spec.specs.declared.portable.Portable.{Portable}
-use Rattle.keep_core.specs.Holds.{holds}
+use Rattle.keep_safety.specs.Holds.{holds}
 use Rattle.keep_spec.specs.Order.{by_weight}
-use Rattle.keep_core.specs.Past.{Past}
-use Rattle.keep_core.specs.Rows.{Row, rows, asked}
-use Rattle.keep_core.proofs.Example.{c}
+use Rattle.keep_safety.specs.Past.{Past}
+use Rattle.keep_safety.specs.Rows.{Row, rows, asked}
+use Rattle.keep_safety.proofs.Example.{c}
 
 abbrev event : ℕ → ℕ → Query → Answer → Event
 event tick reading q a = record { tick = tick; reading = reading; actor = 0; query = q; answer = a }

@@ -6,16 +6,16 @@ use Rattle.std.specs.Ordering.{nat_cmp, match_ordering, ordering_reverse}
 use Rattle.std.specs.Cmp.Lexicographic.{slice_cmp, nat_list_cmp_total}
 use Rattle.keep_spec.specs.Config.{Configuration}
 use Rattle.keep_event.specs.Requests.{ascending, inserted}
-use Rattle.keep_core.specs.Holds.{holds}
+use Rattle.keep_safety.specs.Holds.{holds}
 use Rattle.keep_spec.specs.Members.{IsIn, numbers_from}
-use Rattle.keep_core.specs.Past.{Past}
-use Rattle.keep_core.specs.Safe.{protected, IsSafe, IsReadable}
+use Rattle.keep_safety.specs.Past.{Past}
+use Rattle.keep_safety.specs.Safe.{protected, IsSafe, IsReadable}
 use Rattle.keep_core.specs.Unheld.{is_held, protected_digests, unheld, IsLeastUnheld}
-use Rattle.keep_core.proofs.Accepted.{in-ascending}
+use Rattle.keep_safety.proofs.Accepted.{in-ascending}
 use Rattle.keep_order.proofs.Distinct.{number-bounds, number-in}
 use Rattle.keep_order.proofs.Lists.{find-in, all-at}
-use Rattle.keep_core.proofs.Names.{texts-equal}
-use Rattle.keep_core.proofs.Theorem.{held-readable}
+use Rattle.keep_safety.proofs.Names.{texts-equal}
+use Rattle.keep_safety.proofs.Theorem.{held-readable}
 
 abbrev Text : Type 0
 Text = List ℕ

@@ -3,9 +3,9 @@ use Rattle.std.specs.Prelude.{◌≡◌, ⊤, ℕ, List, not, Bool, Option, None
 use Rattle.std.specs.List.{list_any}
 use Rattle.keep_spec.specs.Config.{Configuration}
 use Rattle.keep_spec.specs.Members.{numbers_from}
-use Rattle.keep_core.specs.Holds.{holds}
-use Rattle.keep_core.specs.Past.{Past}
-use Rattle.keep_core.specs.Safe.{IsSafe}
+use Rattle.keep_safety.specs.Holds.{holds}
+use Rattle.keep_safety.specs.Past.{Past}
+use Rattle.keep_safety.specs.Safe.{IsSafe}
 use Rattle.keep_core.specs.Unheld.{IsLeastUnheld}
 use Rattle.keep_core.specs.declared.judging.Unsafe.{Unsafe}
 use Rattle.keep_core.specs.declared.judging.Unsafe.TheVariants.{Unheld, NoMemory}

@@ -1,12 +1,3 @@
-pub mod Allowed
-pub mod History
-pub mod Holds
-pub mod Past
-pub mod Rounds
-pub mod Rows
-pub mod Safe
-pub mod Signatures
-pub mod Times
 pub mod Unheld
 pub mod WorldLines
 pub mod Seen

@@ -20,13 +20,13 @@ use Rattle.keep_event.specs.declared.event.Answer.TheVariants as A
 use Rattle.keep_core.specs.declared.held.Change.{Change}
 use Rattle.keep_core.specs.declared.held.Change.TheVariants.{Nothing, Made, Swept, Timed}
 use Rattle.keep_core.specs.declared.held.Held.{Held}
-use Rattle.keep_core.specs.declared.held.Superseded.{Superseded}
+use Rattle.keep_safety.specs.declared.superseded.Superseded.{Superseded}
 use Rattle.keep_core.specs.declared.held.Tracked.{Tracked}
 use Rattle.keep_core.specs.declared.held.Version.{Version}
-use Rattle.keep_core.specs.Past.{Past}
-use Rattle.keep_core.specs.Rows.{Row, rows, delete_at, is_over}
-use Rattle.keep_core.specs.Signatures.{digest_named, token_carried, time_told}
-use Rattle.keep_core.specs.Times.{skew}
+use Rattle.keep_safety.specs.Past.{Past}
+use Rattle.keep_safety.specs.Rows.{Row, rows, delete_at, is_over}
+use Rattle.keep_safety.specs.Signatures.{digest_named, token_carried, time_told}
+use Rattle.keep_safety.specs.Times.{skew}
 
 abbrev pub version_of : Row → Version
 version_of r = record { collection = r.number; superseded = r.superseded; named = r.made.named }

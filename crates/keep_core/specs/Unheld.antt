@@ -6,10 +6,10 @@ use Rattle.std.specs.Ordering.{nat_cmp}
 use Rattle.std.specs.Cmp.Lexicographic.{slice_cmp}
 use Rattle.keep_spec.specs.Config.{Configuration}
 use Rattle.keep_event.specs.Requests.{ascending}
-use Rattle.keep_core.specs.Holds.{holds}
+use Rattle.keep_safety.specs.Holds.{holds}
 use Rattle.keep_spec.specs.Members.{IsIn, numbers_from}
-use Rattle.keep_core.specs.Past.{Past}
-use Rattle.keep_core.specs.Safe.{protected}
+use Rattle.keep_safety.specs.Past.{Past}
+use Rattle.keep_safety.specs.Safe.{protected}
 
 -- ascending
 abbrev pub holders : Configuration → Past → List ℕ → List ℕ

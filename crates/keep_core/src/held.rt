@@ -6,25 +6,17 @@ ghost use Rattle.std.specs.Ordering.{nat_cmp};
 ghost use Rattle.keep_spec.specs.Members.{IsIn};
 ghost use Rattle.keep_spec.specs.Times.{grace};
 ghost use Rattle.keep_event.specs.Requests.{digests_of};
-ghost use Rattle.keep_core.specs.Rows.{refs, is_over};
+ghost use Rattle.keep_safety.specs.Rows.{refs, is_over};
 ghost use Rattle.keep_core.specs.Seen.{superseded, updated, change_of, last_sweep, begins_by, swept_by, passed, was_past, was_over, outlives_by, tracked_of, left, named_where, named_left, with_made, made_after, tracked_after, sweep_after};
 
 use crate::digests::digests_of;
 use keep_config::Config;
 use keep_event::{Answer, Event, Query, SaveRequest, TableAnswer, TableQuery};
+use keep_safety::Superseded;
 use keep_spec::{Digest, Items, NoMemory};
 use std::alloc::Global;
 use std::collections::BTreeMap;
 use std::ops::Bound;
-
-/// The update that superseded a version.
-#[derive(Clone, Copy, Debug, PartialEq, Eq)]
-pub struct Superseded {
-    /// The reading of the update, in nanoseconds since 1970.
-    pub at: u64,
-    /// The update asked to keep the version as long as its collection.
-    pub preserved: bool,
-}
 
 /// A version of a collection, with the digests that it names.
 #[derive(Drop, Debug)]

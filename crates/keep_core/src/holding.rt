@@ -5,8 +5,8 @@ ghost use Rattle.std.specs.Ordering.{nat_cmp};
 ghost use Rattle.std.specs.Cmp.Lexicographic.{slice_cmp};
 ghost use Rattle.keep_spec.specs.Members.{numbers_from};
 ghost use Rattle.keep_core.specs.Unheld.{holders};
-ghost use Rattle.keep_core.specs.Holds.{holds, holds_after, held_after, is_named};
-ghost use Rattle.keep_core.specs.Signatures.{digest_named};
+ghost use Rattle.keep_safety.specs.Holds.{holds, holds_after, held_after, is_named};
+ghost use Rattle.keep_safety.specs.Signatures.{digest_named};
 
 use keep_config::Config;
 use keep_event::{Answer, DeviceAnswer, DeviceQuery, Event, Query};

@@ -3,10 +3,10 @@ ghost use Rattle.std.specs.Prelude.{◌≡◌, ℕ, List, Err, Option, not, reve
 ghost use Rattle.std.specs.BTreeSet.{contains};
 ghost use Rattle.std.specs.Ordering.{nat_cmp};
 ghost use Rattle.std.specs.Cmp.Lexicographic.{slice_cmp};
-ghost use Rattle.keep_core.specs.Allowed.{IsAllowed};
+ghost use Rattle.keep_safety.specs.Allowed.{IsAllowed};
 ghost use Rattle.keep_core.specs.Judged.{IsJudged, is_first, lacks};
-ghost use Rattle.keep_core.specs.Signatures.{IsUnforged};
-ghost use Rattle.keep_core.specs.Times.{IsSteady};
+ghost use Rattle.keep_safety.specs.Signatures.{IsUnforged};
+ghost use Rattle.keep_safety.specs.Times.{IsSteady};
 ghost use Rattle.keep_core.specs.Unheld.{is_held, protected_digests};
 
 use crate::holding::held_by;

@@ -5,8 +5,8 @@ ghost use Rattle.std.specs.Ordering.{nat_cmp};
 ghost use Rattle.std.specs.Cmp.Lexicographic.{slice_cmp};
 ghost use Rattle.keep_spec.specs.Times.{expiry_at};
 ghost use Rattle.keep_core.specs.Seen.{is_live_at, live_of, live_put, live_read, put_digest};
-ghost use Rattle.keep_core.specs.Signatures.{digest_named};
-ghost use Rattle.keep_core.specs.Times.{now};
+ghost use Rattle.keep_safety.specs.Signatures.{digest_named};
+ghost use Rattle.keep_safety.specs.Times.{now};
 ghost use Rattle.keep_core.specs.Unheld.{protected_digests};
 
 use crate::digests::digests_of;

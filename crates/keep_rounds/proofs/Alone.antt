@@ -12,7 +12,7 @@ use Rattle.keep_event.specs.declared.event.Query.{Query}
 use Rattle.keep_event.specs.declared.event.Query.TheVariants as Q
 use Rattle.keep_event.specs.declared.event.Answer.{Answer}
 use Rattle.keep_event.specs.declared.event.Answer.TheVariants as A
-use Rattle.keep_core.specs.Allowed.{ArePlanned}
+use Rattle.keep_safety.specs.Allowed.{ArePlanned}
 use Rattle.keep_history.specs.Rounds.{Round, no_round, gave, with_started}
 use Rattle.keep_event.specs.Plan.{reached}
 use Rattle.keep_history.specs.Next.{Answered, Next, asks, ends}

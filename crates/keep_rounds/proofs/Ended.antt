@@ -11,8 +11,8 @@ use Rattle.keep_spec.specs.declared.status.Status.TheVariants as St
 use Rattle.keep_event.specs.Device.{initial}
 use Rattle.keep_event.specs.World.{World}
 use Rattle.keep_event.specs.declared.event.Event.{Event}
-use Rattle.keep_core.specs.History.{past_of}
-use Rattle.keep_core.specs.Past.{Past, device_after}
+use Rattle.keep_safety.specs.History.{past_of}
+use Rattle.keep_safety.specs.Past.{Past, device_after}
 use Rattle.keep_history.specs.Effects.{Effect, Made, effect_of_line}
 use Rattle.keep_history.specs.Ended.{Begun, HowEnded, IsBetween, IsCutOff, IsOwn, IsUnwritten, IsWithin, OneMore, Place, Work, begun_by, begun_of, done_after, effect_of_piece, effect_within, left_after, place_after, place_in, script_place, with_line, work_of, work_with, work_within}
 use Rattle.keep_history.specs.Run.{End, Kept, Progress, after_line, and_then, at_start, by_verdict, config_for, ended_by, first_filled, history_of, kept_by, left_in, run_configured, run_from, run_lines, run_of, run_opened, run_pieces, verdict_on}

@@ -12,9 +12,9 @@ use Rattle.keep_event.specs.declared.event.Query.{Query}
 use Rattle.keep_event.specs.declared.event.Query.TheVariants as Q
 use Rattle.keep_event.specs.declared.event.Answer.{Answer}
 use Rattle.keep_event.specs.declared.event.Answer.TheVariants as A
-use Rattle.keep_core.specs.Allowed.{IsAllowed}
-use Rattle.keep_core.specs.Past.{Past}
-use Rattle.keep_core.proofs.Example.{c}
+use Rattle.keep_safety.specs.Allowed.{IsAllowed}
+use Rattle.keep_safety.specs.Past.{Past}
+use Rattle.keep_safety.proofs.Example.{c}
 use Rattle.keep_history.specs.Next.{asks, ends}
 use Rattle.keep_history.specs.declared.task.Outcome.TheVariants.{Balanced, Stale, Disordered}
 use Rattle.keep_rounds.specs.Balance.{next}

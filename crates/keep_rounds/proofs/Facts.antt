@@ -14,12 +14,12 @@ use Rattle.keep_event.specs.declared.event.Query.{Query}
 use Rattle.keep_event.specs.declared.event.Query.TheVariants as Q
 use Rattle.keep_event.specs.declared.event.Answer.{Answer}
 use Rattle.keep_event.specs.declared.event.Answer.TheVariants as A
-use Rattle.keep_core.specs.Allowed.{ArePlanned, IsPlanned}
-use Rattle.keep_core.specs.Past.{Past, table_after, IsAnswered}
+use Rattle.keep_safety.specs.Allowed.{ArePlanned, IsPlanned}
+use Rattle.keep_safety.specs.Past.{Past, table_after, IsAnswered}
 use Rattle.keep_history.specs.Rounds.{Round, no_round, gave, with_started, with_cleared, with_page}
-use Rattle.keep_core.specs.Rounds.{Stage, round_in, stage, at_stage, MayPrecede, IsInOrder}
+use Rattle.keep_safety.specs.Rounds.{Stage, round_in, stage, at_stage, MayPrecede, IsInOrder}
 use Rattle.keep_event.specs.Plan.{reached}
-use Rattle.keep_core.proofs.Orders.{RoundIs, IsElsewhere, own-in-order, other-event, own-event, fresh-round}
+use Rattle.keep_safety.proofs.Orders.{RoundIs, IsElsewhere, own-in-order, other-event, own-event, fresh-round}
 use Rattle.std.proofs.lemmas.Bool.{eq-eqb}
 use Rattle.keep_history.specs.declared.task.Outcome.TheVariants.{Disordered}
 use Rattle.keep_history.specs.Balance.{to_clear, to_page, page_on, number_after, round_after, cleared_after, balance_end}

@@ -11,7 +11,7 @@ use Rattle.keep_event.specs.declared.event.Event.{Event}
 use Rattle.keep_event.specs.declared.event.Query.{Query}
 use Rattle.keep_event.specs.declared.event.Query.TheVariants as Q
 use Rattle.keep_spec.specs.Members.{IsIn}
-use Rattle.keep_core.specs.Past.{Past, IsAnswered, table_after, device_after}
+use Rattle.keep_safety.specs.Past.{Past, IsAnswered, table_after, device_after}
 use Rattle.keep_event.specs.World.{device_rules}
 use Rattle.keep_history.specs.Rounds.{Round}
 use Rattle.keep_order.proofs.Distinct.{number-bounds}

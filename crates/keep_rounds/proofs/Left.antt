@@ -22,7 +22,7 @@ use Rattle.keep_event.specs.Table.{rows_above, row_of}
 use Rattle.keep_event.specs.declared.table.Record.{Record}
 use Rattle.keep_event.specs.declared.table.ScanRow.{ScanRow}
 use Rattle.keep_spec.specs.Members.{IsIn}
-use Rattle.keep_core.specs.Past.{Past, device_after, table_after, table_left_by, IsAnswered}
+use Rattle.keep_safety.specs.Past.{Past, device_after, table_after, table_left_by, IsAnswered}
 use Rattle.keep_history.specs.Rounds.{Round, with_started, with_cleared, with_page, with_scan}
 use Rattle.keep_event.specs.Plan.{Scan, reached}
 use Rattle.keep_order.proofs.Lists.{in-map, in-filter}

@@ -6,7 +6,7 @@ use Rattle.keep_spec.specs.Config.{Configuration}
 use Rattle.keep_event.specs.World.{World}
 use Rattle.keep_event.specs.declared.event.Event.{Event}
 use Rattle.keep_event.specs.declared.event.Query.{Query}
-use Rattle.keep_core.specs.Past.{Past}
+use Rattle.keep_safety.specs.Past.{Past}
 use Rattle.keep_history.specs.Balance.{balance_after, balance_next, balances as balance_asks}
 use Rattle.keep_history.specs.Effects.{Standing, event_of, is_failed}
 use Rattle.keep_history.specs.Next.{Answered, asks, stands_after}

@@ -8,7 +8,7 @@ use Rattle.keep_spec.specs.Members.{IsIn, numbers_from}
 use Rattle.keep_history.specs.Rounds.{digits, longer, prefixes}
 use Rattle.keep_order.proofs.Distinct.{numbers-distinct, number-bounds, number-in}
 use Rattle.keep_order.proofs.Lists.{in-map, map-in, in-joined, joined-in}
-use Rattle.keep_core.proofs.Names.{bytes-eq, bytes-same}
+use Rattle.keep_safety.proofs.Names.{bytes-eq, bytes-same}
 use Rattle.keep_history.specs.Balance.{device_numbers, page_on, all_pages}
 use Rattle.keep_rounds.proofs.Apart.{AreApart, numbers-apart, apart-mapped, apart-joined-two, apart-joined, once-counted}
 

@@ -11,10 +11,10 @@ use Rattle.std.proofs.lemmas.List.{append-nil, append_assoc, map-append, reverse
 use Rattle.keep_spec.specs.Config.{Configuration, IsGood}
 use Rattle.keep_spec.specs.Lines.{text_of}
 use Rattle.keep_event.specs.declared.event.Event.{Event}
-use Rattle.keep_core.specs.History.{past_of}
-use Rattle.keep_core.specs.Past.{Past}
-use Rattle.keep_core.proofs.Safety.{kept}
-use Rattle.keep_core.proofs.Theorem.{theorem}
+use Rattle.keep_safety.specs.History.{past_of}
+use Rattle.keep_safety.specs.Past.{Past}
+use Rattle.keep_safety.proofs.Safety.{kept}
+use Rattle.keep_safety.proofs.Theorem.{theorem}
 use Rattle.keep_history.specs.declared.task.Command.{Command}
 use Rattle.keep_history.specs.declared.task.Command.TheVariants as C
 use Rattle.keep_history.specs.declared.task.Outcome.{Outcome}

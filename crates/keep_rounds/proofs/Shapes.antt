@@ -9,9 +9,9 @@ use Rattle.keep_table.proofs.Counts.{bit, count-cons}
 use Rattle.keep_spec.specs.Members.{IsIn}
 use Rattle.keep_history.specs.Rounds.{Round, Given, no_round, with_started, with_cleared, with_page, with_scan, prefixes}
 use Rattle.keep_event.specs.Plan.{Scan, reached}
-use Rattle.keep_core.specs.Rounds.{is_page_of, AreChained, AreWhole, IsGathered}
+use Rattle.keep_safety.specs.Rounds.{is_page_of, AreChained, AreWhole, IsGathered}
 use Rattle.keep_order.proofs.Distinct.{numbers-distinct}
-use Rattle.keep_core.proofs.Orders.{counted-once}
+use Rattle.keep_safety.proofs.Orders.{counted-once}
 use Rattle.std.proofs.lemmas.List.{reverse-append, append_assoc}
 use Rattle.keep_rounds.specs.Order.{asked_of, IsOrdered}
 use Rattle.keep_history.specs.Balance.{device_numbers, page_on, all_pages, to_clear, to_page}

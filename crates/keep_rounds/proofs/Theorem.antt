@@ -12,18 +12,18 @@ use Rattle.keep_event.specs.declared.event.Query.{Query}
 use Rattle.keep_event.specs.declared.event.Query.TheVariants as Q
 use Rattle.keep_event.specs.declared.event.Answer.{Answer}
 use Rattle.keep_event.specs.declared.event.Answer.TheVariants as A
-use Rattle.keep_core.specs.Allowed.{IsAllowed, IsPlanned}
-use Rattle.keep_core.specs.Past.{Past, table_after}
+use Rattle.keep_safety.specs.Allowed.{IsAllowed, IsPlanned}
+use Rattle.keep_safety.specs.Past.{Past, table_after}
 use Rattle.keep_history.specs.Rounds.{Round}
-use Rattle.keep_core.specs.Rounds.{Stage, stage, at_stage}
-use Rattle.keep_core.proofs.Orders.{IsElsewhere, no-round-in-order}
+use Rattle.keep_safety.specs.Rounds.{Stage, stage, at_stage}
+use Rattle.keep_safety.proofs.Orders.{IsElsewhere, no-round-in-order}
 use Rattle.keep_history.specs.Next.{Answered, asks}
 use Rattle.keep_history.specs.Balance.{Balancing}
 use Rattle.keep_history.specs.declared.task.Outcome.TheVariants.{Disordered}
 use Rattle.keep_rounds.specs.Balance.{next_of, after_next, after_reply, standing}
 use Rattle.keep_rounds.specs.Interleaved.{asks_of_round, replies_to, stands, MayAsk, IsStep, AreSteps, IsRun, RunsAreAllowed}
-use Rattle.keep_core.specs.History.{past_of}
-use Rattle.keep_core.proofs.Theorem.{histories-are-safe}
+use Rattle.keep_safety.specs.History.{past_of}
+use Rattle.keep_safety.proofs.Theorem.{histories-are-safe}
 use Rattle.keep_rounds.specs.Safe.{RunsAreSafe}
 use Rattle.keep_rounds.proofs.Asked.{asked-next}
 use Rattle.keep_rounds.proofs.Drawn.{drawn-grows}

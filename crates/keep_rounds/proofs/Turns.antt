@@ -8,7 +8,7 @@ use Rattle.keep_spec.specs.Config.{Configuration}
 use Rattle.keep_event.specs.World.{World}
 use Rattle.keep_event.specs.declared.event.Event.{Event}
 use Rattle.keep_event.specs.declared.event.Query.{Query}
-use Rattle.keep_core.specs.Past.{Past}
+use Rattle.keep_safety.specs.Past.{Past}
 use Rattle.keep_history.specs.declared.task.Outcome.{Outcome}
 use Rattle.keep_history.specs.Effects.{Asked, Made, Standing, after_made, answered_by, asked_on, event_of, events_max, is_failed, with_answer}
 use Rattle.keep_history.specs.Next.{Answered, Next, asks, ends}

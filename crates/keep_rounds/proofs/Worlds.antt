@@ -14,9 +14,9 @@ use Rattle.keep_event.specs.declared.event.Query.{Query}
 use Rattle.keep_event.specs.declared.event.Query.TheVariants as Q
 use Rattle.keep_event.specs.declared.event.Answer.TheVariants as A
 use Rattle.keep_event.specs.declared.table.TableQuery.{TableQuery}
-use Rattle.keep_core.specs.Past.{Past, IsAnswered, device_after, is_fault, table_after}
-use Rattle.keep_core.proofs.Places.{line_at}
-use Rattle.keep_core.proofs.Sure.{step-sure}
+use Rattle.keep_safety.specs.Past.{Past, IsAnswered, device_after, is_fault, table_after}
+use Rattle.keep_safety.proofs.Places.{line_at}
+use Rattle.keep_safety.proofs.Sure.{step-sure}
 use Rattle.keep_history.proofs.Collisions.{new-world}
 use Rattle.keep_history.specs.Run.{at_start}
 use Rattle.keep_rounds.proofs.Finish.{IsThere}

@@ -12,7 +12,7 @@ use Rattle.keep_event.specs.declared.event.Query.{Query}
 use Rattle.keep_event.specs.declared.event.Query.TheVariants as Q
 use Rattle.keep_event.specs.declared.event.Answer.{Answer}
 use Rattle.keep_event.specs.declared.event.Answer.TheVariants as A
-use Rattle.keep_core.specs.Past.{Past, device_after, table_after}
+use Rattle.keep_safety.specs.Past.{Past, device_after, table_after}
 use Rattle.keep_event.specs.World.{device_rules}
 use Rattle.keep_history.specs.Next.{Next, asks, ends}
 use Rattle.keep_rounds.specs.Balance.{next}

@@ -4,12 +4,12 @@ use Rattle.keep_spec.specs.Config.{Configuration}
 use Rattle.keep_spec.specs.Lines.{cut}
 use Rattle.keep_event.specs.Device.{initial}
 use Rattle.keep_event.specs.declared.event.Event.{Event}
-use Rattle.keep_core.specs.Allowed.{IsAllowed}
-use Rattle.keep_core.specs.History.{past_of}
-use Rattle.keep_core.specs.Past.{device_after}
-use Rattle.keep_core.specs.Safe.{IsKept, IsSafeThroughout}
-use Rattle.keep_core.specs.Signatures.{IsUnforged}
-use Rattle.keep_core.specs.Times.{IsSteady}
+use Rattle.keep_safety.specs.Allowed.{IsAllowed}
+use Rattle.keep_safety.specs.History.{past_of}
+use Rattle.keep_safety.specs.Past.{device_after}
+use Rattle.keep_safety.specs.Safe.{IsKept, IsSafeThroughout}
+use Rattle.keep_safety.specs.Signatures.{IsUnforged}
+use Rattle.keep_safety.specs.Times.{IsSteady}
 use Rattle.keep_history.specs.Effects.{Made}
 use Rattle.keep_history.specs.Ended.{Begun, Work, begun_of}
 use Rattle.keep_history.specs.Run.{Kept, kept_by}

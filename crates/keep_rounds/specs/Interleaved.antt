@@ -9,9 +9,9 @@ use Rattle.keep_event.specs.declared.table.TableQuery.TheVariants.{BeginRound, S
 use Rattle.keep_event.specs.declared.event.Event.{Event}
 use Rattle.keep_event.specs.declared.event.Query.{Query}
 use Rattle.keep_event.specs.declared.event.Query.TheVariants as Q
-use Rattle.keep_core.specs.Allowed.{IsAllowed}
-use Rattle.keep_core.specs.Past.{Past, IsAnswered}
-use Rattle.keep_core.specs.Rounds.{round_in, stage, at_stage}
+use Rattle.keep_safety.specs.Allowed.{IsAllowed}
+use Rattle.keep_safety.specs.Past.{Past, IsAnswered}
+use Rattle.keep_safety.specs.Rounds.{round_in, stage, at_stage}
 use Rattle.keep_history.specs.Next.{Answered, asks}
 use Rattle.keep_history.specs.Balance.{Balancing}
 use Rattle.keep_history.specs.declared.task.Outcome.TheVariants.{Disordered}

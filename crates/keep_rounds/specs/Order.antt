@@ -4,7 +4,7 @@ use Rattle.keep_spec.specs.Config.{Configuration}
 use Rattle.keep_event.specs.declared.device.DeviceQuery.TheVariants.{Accept}
 use Rattle.keep_event.specs.declared.lists.Lists.{Lists}
 use Rattle.keep_event.specs.declared.event.Query.TheVariants as Q
-use Rattle.keep_core.specs.Allowed.{ArePlanned}
+use Rattle.keep_safety.specs.Allowed.{ArePlanned}
 use Rattle.keep_history.specs.Rounds.{Round, Given}
 use Rattle.keep_history.specs.Next.{Answered, asks}
 use Rattle.keep_rounds.specs.Balance.{standing, next}

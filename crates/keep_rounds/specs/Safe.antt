@@ -2,9 +2,9 @@
 use Rattle.std.specs.Prelude.{ℕ, List, Bool}
 use Rattle.keep_spec.specs.Config.{Configuration}
 use Rattle.keep_event.specs.declared.event.Event.{Event}
-use Rattle.keep_core.specs.History.{past_of, IsKeptSafe}
-use Rattle.keep_core.specs.Signatures.{IsUnforged}
-use Rattle.keep_core.specs.Times.{IsSteady}
+use Rattle.keep_safety.specs.History.{past_of, IsKeptSafe}
+use Rattle.keep_safety.specs.Signatures.{IsUnforged}
+use Rattle.keep_safety.specs.Times.{IsSteady}
 use Rattle.keep_rounds.specs.Interleaved.{AreSteps}
 
 -- Whatever tasks run at the same time, while clocks agree and no forged signature is accepted: after each event each block that is named can be read, and each trash step left enough.

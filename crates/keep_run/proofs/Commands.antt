@@ -14,10 +14,10 @@ use Rattle.keep_history.specs.Effects.{Scene, Effect, Made, Asked, Standing, ope
 use Rattle.keep_history.specs.Names.{at_name, with_name}
 use Rattle.keep_history.specs.Tasks.{opened, next}
 use Rattle.keep_running.specs.Running.{stands, has_ended, may_ask}
-use Rattle.keep_tasks.specs.Steps.{IsOpened, IsReady}
+use Rattle.keep_steps.specs.Steps.{IsOpened, IsReady}
 use Rattle.keep_running.specs.declared.running.AnyTask.{AnyTask}
-use Rattle.keep_tasks.specs.declared.steps.Opened.{Opened}
-use Rattle.keep_tasks.specs.declared.steps.Opened.TheVariants as P
+use Rattle.keep_steps.specs.declared.steps.Opened.{Opened}
+use Rattle.keep_steps.specs.declared.steps.Opened.TheVariants as P
 use Rattle.keep_run.specs.Asked.{HasAsked, DoesTurns, StopsTurns, asking, outcome_of, is_spent}
 use Rattle.keep_run.specs.Commands.{HasPrinted, IsRefused, PartDone, done_by, IsCommandDone, IsCommandStopped, IsAskingDone, IsAskingStopped, state_opened, text_opened, state_put, done_of}
 use Rattle.keep_run.specs.Faults.{Agrees, AreNumbered, Rise}

@@ -21,8 +21,8 @@ use Rattle.keep_history.specs.Ended.{is_on, left_after}
 use Rattle.keep_history.specs.Next.{Answered, Next, asks, ends}
 use Rattle.keep_history.specs.Tasks.{next, is_fault}
 use Rattle.keep_running.specs.Running.{stands, query_of}
-use Rattle.keep_tasks.specs.Steps.{IsAsked, IsReturned, AsksOnce, IsTaken, answered}
-use Rattle.keep_tasks.specs.declared.steps.Step.{Step}
+use Rattle.keep_steps.specs.Steps.{IsAsked, IsReturned, AsksOnce, IsTaken, answered}
+use Rattle.keep_steps.specs.declared.steps.Step.{Step}
 use Rattle.keep_run.specs.Asked.{HasAsked, PartAsked, port_view, asking, device_of, line_at}
 use Rattle.keep_run.specs.Faults.{Agrees, Rise}
 use Rattle.keep_run.specs.Standing.{IsStanding}

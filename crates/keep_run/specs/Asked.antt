@@ -12,7 +12,7 @@ use Rattle.keep_history.specs.Effects.{Made, Asked, Standing, asked_on, event_li
 use Rattle.keep_history.specs.Ended.{left_after}
 use Rattle.keep_history.specs.Printed.{event_line, table_event_line}
 use Rattle.keep_history.specs.Tasks.{next}
-use Rattle.keep_tasks.specs.Steps.{PortView}
+use Rattle.keep_steps.specs.Steps.{PortView}
 use Rattle.keep_run.specs.Faults.{Agrees, AreNumbered, Rise}
 use Rattle.keep_run.specs.Standing.{IsStanding}
 use Rattle.keep_run.specs.Turns.{after_all}

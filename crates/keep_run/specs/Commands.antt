@@ -16,8 +16,8 @@ use Rattle.keep_run.specs.Scenes.{IsSceneOf}
 use Rattle.keep_history.specs.Names.{at_name}
 use Rattle.keep_history.specs.Printed.{end_line}
 use Rattle.keep_running.specs.declared.running.AnyTask.{AnyTask}
-use Rattle.keep_tasks.specs.declared.steps.Opened.{Opened}
-use Rattle.keep_tasks.specs.declared.steps.Opened.TheVariants as P
+use Rattle.keep_steps.specs.declared.steps.Opened.{Opened}
+use Rattle.keep_steps.specs.declared.steps.Opened.TheVariants as P
 use Rattle.keep_run.specs.declared.asking.Open.{Open}
 use Rattle.keep_run.specs.declared.asking.Turned.{Turned}
 use Rattle.keep_run.specs.declared.asking.Turned.TheVariants as T

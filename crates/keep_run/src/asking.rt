@@ -11,8 +11,8 @@ use keep_history::Outcome;
 use keep_running::AnyTask;
 use keep_script::{push_event_line, push_table_event_line};
 use keep_spec::NoMemory;
+use keep_steps::{Step, Steps};
 use keep_store::Store;
-use keep_tasks::{Step, Steps};
 
 /// A task that has not ended, and who asks for it: the number of its opening among all openings, from 0.
 #[derive(Drop)]

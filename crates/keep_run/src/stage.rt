@@ -20,8 +20,8 @@ use keep_history::{Command, Opening, Outcome, TaskState};
 use keep_running::{AnyTask, open_any};
 use keep_script::push_end_line;
 use keep_spec::{Bytes, NoMemory};
+use keep_steps::Opened;
 use keep_store::Store;
-use keep_tasks::Opened;
 use std::alloc::Global;
 use std::collections::BTreeMap;
 

@@ -2,14 +2,15 @@
 ghost use Rattle.std.specs.Prelude.{◌≡◌, IfOk};
 ghost use Rattle.keep_history.specs.Script.{HasTimes};
 ghost use Rattle.keep_history.specs.Tasks.{opened, NamesWithin};
-ghost use Rattle.keep_tasks.specs.Steps.{IsOpened, IsReady};
+ghost use Rattle.keep_steps.specs.Steps.{IsOpened, IsReady};
 
 use keep_balance::BalanceTask;
 use keep_config::Config;
 use keep_event::{Query, Reply};
 use keep_history::{Opening, Outcome};
 use keep_spec::NoMemory;
-use keep_tasks::{Opened, Running, Steps, open_task};
+use keep_steps::{Opened, Steps};
+use keep_tasks::{Running, open_task};
 use keep_workers::{EmptyWorker, PullWorker, TrashWorker};
 use std::alloc::Global;
 

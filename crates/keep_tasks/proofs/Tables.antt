@@ -16,7 +16,7 @@ use Rattle.keep_history.specs.declared.task.Outcome.TheVariants as O
 use Rattle.keep_history.specs.declared.task.Task.TheVariants as T
 use Rattle.keep_history.specs.Next.{Answered, Next, asks}
 use Rattle.keep_history.specs.Tasks.{next, table_end, table_end_of}
-use Rattle.keep_tasks.specs.Steps.{IsTaken}
+use Rattle.keep_steps.specs.Steps.{IsTaken}
 use Rattle.keep_tasks.specs.Tables.{IsTable, ends_of, is_read, is_row, uuid_beginning}
 use Rattle.keep_tasks.specs.declared.table.Ends.{Ends}
 

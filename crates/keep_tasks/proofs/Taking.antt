@@ -16,7 +16,7 @@ use Rattle.keep_history.specs.declared.task.Task.TheVariants as T
 use Rattle.keep_history.specs.Next.{Answered, Next, asks, ends}
 use Rattle.keep_history.specs.Tasks.{next, walk, on_device, by_all, compare_end, write_end, writes, fetch_end, touch_end, no_end, not_written, not_fetched, not_touched, untrashed, signed_locator}
 use Rattle.keep_tasks.specs.Kinds.{IsPut, IsPutting, IsGet, IsTouch, IsUntrash, block_unsigned, block_text, as_write, BeginsWrites, WriteBegins}
-use Rattle.keep_tasks.specs.Steps.{IsTaken}
+use Rattle.keep_steps.specs.Steps.{IsTaken}
 use Rattle.keep_tasks.specs.Unsigned.{Beginning, unsigned}
 use Rattle.keep_tasks.specs.Walks.{IsAt, IsOver, IsWalking, seen_of}
 use Rattle.keep_tasks.specs.declared.walk.Walk.{Walk}

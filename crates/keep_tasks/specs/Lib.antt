@@ -1,7 +1,6 @@
 pub mod Kinds
 pub mod Openings
 pub mod Running
-pub mod Steps
 pub mod Tables
 pub mod Unsigned
 pub mod Walks

@@ -4,12 +4,12 @@ ghost use Rattle.keep_history.specs.Tasks.{fetch_end, on_device};
 ghost use Rattle.keep_history.specs.declared.task.Task.{Task as TheTask};
 
 use crate::opening::get_parts;
-use crate::steps::{Opened, Steps};
 use crate::walk::Walk;
 use keep_config::Config;
 use keep_event::{Answer, DeviceAnswer, DeviceQuery, Query, Reply};
 use keep_history::Outcome;
 use keep_spec::{Digest, Items, NoMemory};
+use keep_steps::{Opened, Steps};
 use std::alloc::Global;
 
 /// A get: it fetches from each device of its server until one has the block. Only the end `Bytes` wants memory, for the bytes, which the reply has too.
@@ -77,7 +77,7 @@ impl GetTask {
     ghost use Rattle.keep_tasks.specs.Walks.{AreBelow};
     ghost use Rattle.keep_history.specs.Tasks.{opened};
     ghost use Rattle.keep_history.specs.declared.task.Opening.{Opening as TheOpening};
-    ghost use Rattle.keep_tasks.specs.Steps.{IsOpened, IsReady};
+    ghost use Rattle.keep_steps.specs.Steps.{IsOpened, IsReady};
 
     /// Opens a get of a locator, at a server of the configuration and a reading (nanoseconds since 1970). It ends at once with `UnknownToken`, `BadLocator`,
     /// `Bytes` of the empty block, `Forbidden` or `Expired`, or `NotFound` where the server has no device, in this order.

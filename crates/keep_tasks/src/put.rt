@@ -6,13 +6,13 @@ ghost use Rattle.keep_history.specs.declared.task.Task.{Task as TheTask};
 ghost use Rattle.keep_tasks.specs.Kinds.{block_text, block_unsigned, as_write, given};
 
 use crate::opening::put_parts;
-use crate::steps::{Opened, Steps};
 use crate::unsigned::Unsigned;
 use crate::walk::Walk;
 use keep_config::Config;
 use keep_event::{Answer, Block, DeviceAnswer, DeviceQuery, Query, Reply, TableQuery};
 use keep_history::Outcome;
 use keep_spec::{Bytes, Digest, Items, NoMemory, TokenId};
+use keep_steps::{Opened, Steps};
 use std::alloc::Global;
 use std::mem;
 
@@ -114,13 +114,13 @@ impl Steps for PutTask {
 
 impl PutTask {
     ghost use Rattle.keep_tasks.specs.Kinds.{IsPut, ArePut, BeginsWrites};
-    ghost use Rattle.keep_tasks.specs.Steps.{IsTaken};
+    ghost use Rattle.keep_steps.specs.Steps.{IsTaken};
     ghost use Rattle.keep_history.specs.Next.{Answered, Next};
     ghost use Rattle.keep_history.specs.Tasks.{next};
     ghost use Rattle.std.specs.Prelude.{false, true, [], ◌∷◌, ◌++◌, is_some};
     ghost use Rattle.keep_history.specs.Tasks.{opened};
     ghost use Rattle.keep_history.specs.declared.task.Opening.{Opening as TheOpening};
-    ghost use Rattle.keep_tasks.specs.Steps.{IsOpened, IsReady};
+    ghost use Rattle.keep_steps.specs.Steps.{IsOpened, IsReady};
 
     /// Opens a put of bytes, at a server of the configuration. It ends at once with `UnknownToken`, `TooLong`, `HashMismatch`, `Stored` of the empty block or
     /// `NoRoom`, in this order.

@@ -1,11 +1,11 @@
 // Restarts.
 ghost use Rattle.std.specs.Prelude.{◌≡◌, ◌<◌};
 
-use crate::steps::{Opened, Steps};
 use keep_config::Config;
 use keep_event::{DeviceQuery, Query, Reply};
 use keep_history::Outcome;
 use keep_spec::NoMemory;
+use keep_steps::{Opened, Steps};
 
 /// A restart: it asks the device once to forget its lists.
 #[derive(Drop)]
@@ -46,7 +46,7 @@ impl Steps for RestartTask {
 impl RestartTask {
     ghost use Rattle.keep_history.specs.Tasks.{opened};
     ghost use Rattle.keep_history.specs.declared.task.Opening.{Opening as TheOpening};
-    ghost use Rattle.keep_tasks.specs.Steps.{IsOpened, IsReady};
+    ghost use Rattle.keep_steps.specs.Steps.{IsOpened, IsReady};
     ghost use Rattle.std.specs.Prelude.{ℕ, length};
 
     /// Opens a restart of a device, by its number in the configuration. It never ends at once.

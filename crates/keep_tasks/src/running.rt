@@ -3,13 +3,12 @@ ghost use Rattle.std.specs.Prelude.{◌≡◌, IfOk};
 ghost use Rattle.keep_history.specs.Script.{HasTimes};
 ghost use Rattle.keep_history.specs.Tasks.{opened, NamesWithin};
 ghost use Rattle.keep_tasks.specs.Openings.{IsOfClient};
-ghost use Rattle.keep_tasks.specs.Steps.{IsOpened, IsReady};
+ghost use Rattle.keep_steps.specs.Steps.{IsOpened, IsReady};
 
 use crate::get::GetTask;
 use crate::opening::table_query;
 use crate::put::PutTask;
 use crate::restart::RestartTask;
-use crate::steps::{Opened, Steps};
 use crate::table::TableTask;
 use crate::touch::TouchTask;
 use crate::untrash::UntrashTask;
@@ -17,6 +16,7 @@ use keep_config::Config;
 use keep_event::{Query, Reply};
 use keep_history::{Opening, Outcome};
 use keep_spec::NoMemory;
+use keep_steps::{Opened, Steps};
 use std::alloc::Global;
 
 /// A client's task of any kind, or a restart, between two queries.

@@ -7,12 +7,12 @@ ghost use Rattle.keep_history.specs.Tasks.{end_as_answered, refused, table_end, 
 ghost use Rattle.keep_tasks.specs.Tables.{ends_of, is_row};
 
 use crate::row::signed_row;
-use crate::steps::{Opened, Steps};
 use crate::uuid::Unnumbered;
 use keep_config::Config;
 use keep_event::{Answer, Query, Reply, TableAnswer, TableQuery};
 use keep_history::Outcome;
 use keep_spec::{Bytes, NoMemory};
+use keep_steps::{Opened, Steps};
 use std::alloc::Global;
 
 /// What a task of the table keeps of the configuration for its ends.
@@ -229,7 +229,7 @@ impl Steps for TableTask {
 
 impl TableTask {
     ghost use Rattle.keep_tasks.specs.Tables.{is_read};
-    ghost use Rattle.keep_tasks.specs.Steps.{IsOpened, IsReady};
+    ghost use Rattle.keep_steps.specs.Steps.{IsOpened, IsReady};
     ghost use Rattle.keep_event.specs.Answers.{IsAnswerOf};
     ghost use Rattle.keep_event.specs.Requests.{MayAskTable};
     ghost use Rattle.keep_history.specs.Tasks.{asks_table, is_task_query};

@@ -6,13 +6,13 @@ ghost use Rattle.keep_history.specs.declared.task.Task.{Task as TheTask};
 ghost use Rattle.keep_tasks.specs.Unsigned.{unsigned};
 
 use crate::opening::touch_parts;
-use crate::steps::{Opened, Steps};
 use crate::unsigned::Unsigned;
 use crate::walk::Walk;
 use keep_config::Config;
 use keep_event::{Answer, DeviceAnswer, DeviceQuery, Query, Reply};
 use keep_history::Outcome;
 use keep_spec::{Bytes, Digest, Items, NoMemory, TokenId};
+use keep_steps::{Opened, Steps};
 use std::alloc::Global;
 
 /// A touch: it renews the replica's time on the first writable device of its server that has the block, and signs the locator by that time.
@@ -83,7 +83,7 @@ impl TouchTask {
     ghost use Rattle.std.specs.Prelude.{false, [], ℕ};
     ghost use Rattle.keep_history.specs.Tasks.{opened};
     ghost use Rattle.keep_history.specs.declared.task.Opening.{Opening as TheOpening};
-    ghost use Rattle.keep_tasks.specs.Steps.{IsOpened, IsReady};
+    ghost use Rattle.keep_steps.specs.Steps.{IsOpened, IsReady};
 
     /// Opens a touch of a locator, at a server of the configuration and a reading (nanoseconds since 1970). It ends at once as a get does, but with `Touched` of
     /// the empty block, and with `NotFound` where the server has no writable device.

@@ -3,12 +3,12 @@ ghost use Rattle.std.specs.Prelude.{◌≡◌, ◌<◌, ℕ, All, length, IfOk};
 ghost use Rattle.keep_history.specs.declared.task.Task.{Task as TheTask};
 
 use crate::opening::untrash_parts;
-use crate::steps::{Opened, Steps};
 use crate::walk::Walk;
 use keep_config::Config;
 use keep_event::{DeviceQuery, Query, Reply};
 use keep_history::Outcome;
 use keep_spec::{Digest, Items, NoMemory};
+use keep_steps::{Opened, Steps};
 use std::alloc::Global;
 
 /// An untrash: it asks each writable device of its server to bring a trashed copy back.
@@ -58,7 +58,7 @@ impl UntrashTask {
     ghost use Rattle.std.specs.Prelude.{false, [], ℕ};
     ghost use Rattle.keep_history.specs.Tasks.{opened};
     ghost use Rattle.keep_history.specs.declared.task.Opening.{Opening as TheOpening};
-    ghost use Rattle.keep_tasks.specs.Steps.{IsOpened, IsReady};
+    ghost use Rattle.keep_steps.specs.Steps.{IsOpened, IsReady};
 
     /// Opens an untrash of a digest, at a server of the configuration. It ends at once with `UnknownToken`, `Forbidden` for a token other than the system's, or
     /// `NotFound` where the server has no writable device, in this order.

@@ -11,7 +11,7 @@ use Rattle.keep_history.specs.Next.{Answered, Next, asks}
 use Rattle.keep_history.specs.Tasks.{next, opened}
 use Rattle.keep_history.specs.Workers.{by_device, empty_after, empty_answered, empty_next, items_max}
 use Rattle.keep_history.proofs.Going.{goes-asks}
-use Rattle.keep_tasks.specs.Steps.{IsTaken}
+use Rattle.keep_steps.specs.Steps.{IsTaken}
 use Rattle.keep_workers.specs.Empties.{EmptyMoves, IsEmptying, emptying, with_removed}
 use Rattle.keep_workers.specs.declared.empty.EmptyWorker.{EmptyWorker}
 use Rattle.keep_workers.proofs.Moving.{asks-below, ends-there, stands-there}

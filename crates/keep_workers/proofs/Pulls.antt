@@ -14,7 +14,7 @@ use Rattle.keep_history.specs.Next.{Answered, GoesFrom, Next, asks}
 use Rattle.keep_history.specs.Tasks.{next, opened}
 use Rattle.keep_history.specs.Workers.{Phase, Pulling, by_device, fetch_from, fetching, fetching_answered, in_phase, pull_after, item_failed, pull_answered, pull_next, taking, writing, writing_answered}
 use Rattle.keep_history.proofs.Going.{goes-asks}
-use Rattle.keep_tasks.specs.Steps.{IsTaken}
+use Rattle.keep_steps.specs.Steps.{IsTaken}
 use Rattle.keep_workers.specs.Pulls.{IsInPhase, IsPulling, IsPullingFew, PullMayAsk, PullMoves, SamePlace, block_in, pulling}
 use Rattle.keep_workers.specs.declared.pull.PullWorker.{PullWorker}
 use Rattle.keep_workers.proofs.Moving.{asks-below, ends-there, stands-there}

@@ -11,7 +11,7 @@ use Rattle.keep_history.specs.Next.{Answered, Next, asks}
 use Rattle.keep_history.specs.Tasks.{next, opened}
 use Rattle.keep_history.specs.Workers.{by_device, trash_after, trash_answered, trash_next, item_taken, items_max}
 use Rattle.keep_history.proofs.Going.{goes-asks}
-use Rattle.keep_tasks.specs.Steps.{IsTaken}
+use Rattle.keep_steps.specs.Steps.{IsTaken}
 use Rattle.keep_workers.specs.Trashes.{IsTrashing, IsTrashingFew, TrashMoves, after_items, trashing}
 use Rattle.keep_workers.specs.declared.trash.TrashWorker.{TrashWorker}
 use Rattle.keep_workers.proofs.Moving.{asks-below, ends-there, stands-there}

@@ -8,7 +8,7 @@ use keep_config::Config;
 use keep_event::{Answer, DeviceAnswer, DeviceQuery, Query, Reply};
 use keep_history::Outcome;
 use keep_spec::NoMemory;
-use keep_tasks::{Opened, Steps};
+use keep_steps::{Opened, Steps};
 
 /// An empty worker: it has the device remove the trashed copies whose deadline has passed, one after another.
 #[derive(Drop)]
@@ -51,7 +51,7 @@ impl Steps for EmptyWorker {
 impl EmptyWorker {
     ghost use Rattle.keep_history.specs.Tasks.{opened};
     ghost use Rattle.keep_history.specs.declared.task.Opening.{Opening as TheOpening};
-    ghost use Rattle.keep_tasks.specs.Steps.{IsOpened, IsReady};
+    ghost use Rattle.keep_steps.specs.Steps.{IsOpened, IsReady};
     ghost use Rattle.std.specs.Prelude.{ℕ, length};
 
     /// Opens an empty worker of a device, by its number in the configuration. It never ends at once.

@@ -10,7 +10,7 @@ use keep_config::Config;
 use keep_event::{Answer, Block, DeviceAnswer, DeviceQuery, Query, Reply};
 use keep_history::Outcome;
 use keep_spec::{Digest, NoMemory};
-use keep_tasks::{Opened, Steps};
+use keep_steps::{Opened, Steps};
 use std::alloc::Global;
 
 /// A pull worker: it takes one item after another from its device's list of blocks to pull, fetches the block from a source, and writes it. What it asks says
@@ -88,7 +88,7 @@ impl Steps for PullWorker {
 impl PullWorker {
     ghost use Rattle.keep_history.specs.Tasks.{opened};
     ghost use Rattle.keep_history.specs.declared.task.Opening.{Opening as TheOpening};
-    ghost use Rattle.keep_tasks.specs.Steps.{IsOpened, IsReady};
+    ghost use Rattle.keep_steps.specs.Steps.{IsOpened, IsReady};
     ghost use Rattle.std.specs.Prelude.{length};
     ghost use Rattle.keep_history.specs.Workers.{pull_answered};
     ghost use Rattle.keep_history.specs.Workers.{Phase as ThePhase};

@@ -8,7 +8,7 @@ use keep_config::Config;
 use keep_event::{Answer, DeviceAnswer, DeviceQuery, Query, Reply};
 use keep_history::Outcome;
 use keep_spec::NoMemory;
-use keep_tasks::{Opened, Steps};
+use keep_steps::{Opened, Steps};
 
 /// A trash worker: it has the device take one item after another from its list of blocks to trash.
 #[derive(Drop)]
@@ -52,7 +52,7 @@ impl Steps for TrashWorker {
 impl TrashWorker {
     ghost use Rattle.keep_history.specs.Tasks.{opened};
     ghost use Rattle.keep_history.specs.declared.task.Opening.{Opening as TheOpening};
-    ghost use Rattle.keep_tasks.specs.Steps.{IsOpened, IsReady};
+    ghost use Rattle.keep_steps.specs.Steps.{IsOpened, IsReady};
     ghost use Rattle.std.specs.Prelude.{ℕ, length};
 
     /// Opens a trash worker of a device, by its number in the configuration. It never ends at once.

@@ -1,5 +1,5 @@
 use Rattle.keep_tasks.specs.Kinds.{IsPut, ArePut}
-use Rattle.keep_tasks.proofs.Opens.{may-ask}
+use Rattle.keep_steps.proofs.Opens.{may-ask}
 use Rattle.keep_calls.proofs.tasks.answer_put.Goals as goal
 
 pub go_on-requires : goal.go_on-requires

@@ -1,6 +1,6 @@
 use Rattle.keep_event.specs.Port.{MayAsk}
 use Rattle.keep_tasks.specs.Kinds.{IsRestart}
-use Rattle.keep_tasks.proofs.Opens.{may-ask}
+use Rattle.keep_steps.proofs.Opens.{may-ask}
 use Rattle.keep_calls.proofs.tasks.answer_restart.Goals as goal
 
 pub go_on-requires : goal.go_on-requires

@@ -1,7 +1,7 @@
 use Rattle.keep_event.specs.Port.{MayAsk}
 use Rattle.keep_history.specs.Tasks.{asks_table}
 use Rattle.keep_tasks.specs.Tables.{IsTable}
-use Rattle.keep_tasks.proofs.Opens.{may-ask}
+use Rattle.keep_steps.proofs.Opens.{may-ask}
 use Rattle.keep_calls.proofs.tasks.answer_table.Goals as goal
 
 pub go_on-requires : goal.go_on-requires

@@ -1,6 +1,6 @@
 use Rattle.keep_tasks.specs.Kinds.{IsUntrash}
 use Rattle.keep_tasks.specs.Walks.{AreBelow}
-use Rattle.keep_tasks.proofs.Opens.{may-ask}
+use Rattle.keep_steps.proofs.Opens.{may-ask}
 use Rattle.keep_calls.proofs.tasks.answer_untrash.Goals as goal
 
 pub go_on-requires : goal.go_on-requires

@@ -1,7 +1,7 @@
 use Rattle.std.proofs.Common.{◌+◌, ℕ, List, take, reverse, subst, sym, ap, arith}
 use Rattle.std.specs.Prelude.{◌↔◌}
 use Rattle.keep_spec.specs.Members.{IsIn}
-use Rattle.keep_core.specs.Rows.{refs}
+use Rattle.keep_safety.specs.Rows.{refs}
 use Rattle.keep_core.specs.Seen.{IsKnown}
 use Rattle.keep_core.proofs.HeldDigests.{mapped, referred-is}
 use Rattle.keep_core.proofs.HeldVersions.{knows-next}

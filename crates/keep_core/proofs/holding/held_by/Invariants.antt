@@ -2,7 +2,7 @@ use Rattle.std.proofs.Common.{◌≡◌, ℕ, List, take, reverse}
 use Rattle.std.specs.BTreeSet.{contains}
 use Rattle.std.specs.Ordering.{nat_cmp}
 use Rattle.std.specs.Cmp.Lexicographic.{slice_cmp}
-use Rattle.keep_core.specs.Holds.{holds}
+use Rattle.keep_safety.specs.Holds.{holds}
 use Rattle.keep_core.proofs.holding.held_by.Given as goal
 
 abbrev pub invariant-loop-event : goal.invariant-loop-event

@@ -1,5 +1,5 @@
 use Rattle.std.proofs.Common.{◌≡◌, ◌+◌, ◌++◌, ◌∷◌, [], reverse, arith, refl, sym, ap, ◌∙◌, append-nil, cond, filter}
-use Rattle.keep_core.specs.Holds.{holds}
+use Rattle.keep_safety.specs.Holds.{holds}
 use Rattle.keep_spec.specs.Members.{numbers_from}
 use Rattle.keep_core.proofs.Numbers.{filter_next}
 use Rattle.keep_core.proofs.holding.holders_among.Goals as goal

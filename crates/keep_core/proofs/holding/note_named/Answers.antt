@@ -2,7 +2,7 @@ use Rattle.std.proofs.Common.{true, cond, ap, ◌∙◌}
 use Rattle.std.specs.BTreeSet.{contains}
 use Rattle.std.specs.Ordering.{nat_cmp}
 use Rattle.std.specs.Cmp.Lexicographic.{slice_cmp}
-use Rattle.keep_core.proofs.Names.{compared_as}
+use Rattle.keep_safety.proofs.Names.{compared_as}
 use Rattle.keep_core.proofs.holding.note_named.Goals as goal
 
 pub returns-in-Ok : goal.returns-in-Ok

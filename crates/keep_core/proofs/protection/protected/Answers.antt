@@ -5,9 +5,9 @@ use Rattle.std.proofs.lemmas.List.Kept.{Contains-from_dedup}
 use Rattle.std.proofs.lemmas.List.Sorted.{Contains-permutation, IsPermutation-sym}
 use Rattle.keep_manifest.proofs.DistinctDigests.{dedup_ascends, dedup_keeps}
 use Rattle.keep_collections.proofs.Ascending.{is-ascending}
-use Rattle.keep_core.specs.Safe.{protected}
+use Rattle.keep_safety.specs.Safe.{protected}
 use Rattle.keep_core.specs.Seen.{live_of}
-use Rattle.keep_core.specs.Times.{now}
+use Rattle.keep_safety.specs.Times.{now}
 use Rattle.keep_core.proofs.LiveDigests.{to-protected, from-protected, in-contains, contains-in}
 use Rattle.keep_core.proofs.protection.protected.Goals as goal
 

@@ -1,4 +1,4 @@
-use Rattle.keep_tasks.proofs.Opens.{of-kind}
+use Rattle.keep_steps.proofs.Opens.{of-kind}
 use Rattle.keep_running.proofs.Openings.{is-of-client}
 use Rattle.keep_running.specs.declared.running.AnyTask.TheVariants as A
 use Rattle.keep_running.proofs.running.open_any.Goals as goal

@@ -1,9 +1,9 @@
 use Rattle.keep_history.specs.declared.task.Task.{Task}
 use Rattle.keep_history.specs.Tasks.{asks_table}
 use Rattle.keep_tasks.specs.Running.{has_ended, stands, may_ask}
-use Rattle.keep_tasks.specs.Steps.{IsReady}
+use Rattle.keep_steps.specs.Steps.{IsReady}
 use Rattle.keep_tasks.specs.declared.running.Running.{Running}
-use Rattle.keep_tasks.proofs.Opens.{of-kind}
+use Rattle.keep_steps.proofs.Opens.{of-kind}
 use Rattle.keep_tasks.specs.declared.running.Running.TheVariants as R
 use Rattle.keep_tasks.proofs.running.open_task.Goals as goal
 

@@ -1,5 +1,5 @@
 use Rattle.std.proofs.Common.{[], ◌∷◌, ◌++◌, sym, subst}
-use Rattle.keep_tasks.specs.Steps.{IsTaken, answered}
+use Rattle.keep_steps.specs.Steps.{IsTaken, answered}
 use Rattle.keep_balance.specs.Gathering.{BalanceMayAsk}
 use Rattle.keep_balance.specs.Standing.{Stands}
 use Rattle.keep_balance.proofs.Shown.{round-may-ask, round-taken}

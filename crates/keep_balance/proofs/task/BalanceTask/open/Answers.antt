@@ -1,7 +1,7 @@
 use Rattle.std.proofs.Common.{◌≡◌, refl, ◌∙◌, ap, subst}
 use Rattle.keep_spec.specs.Config.{Configuration, IsGood}
 use Rattle.keep_history.specs.Rounds.{prefixes}
-use Rattle.keep_tasks.proofs.Opens.{task-made}
+use Rattle.keep_steps.proofs.Opens.{task-made}
 use Rattle.keep_balance.proofs.Shown.{round-opens, round-ready}
 use Rattle.keep_balance.proofs.task.BalanceTask.open.Goals as goal
 

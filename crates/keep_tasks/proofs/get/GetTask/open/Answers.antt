@@ -1,7 +1,8 @@
 use Rattle.std.proofs.Common.{ap, sym, ◌∙◌}
 use Rattle.keep_history.specs.declared.task.Task.TheVariants as T
 use Rattle.keep_tasks.specs.Openings.{made}
-use Rattle.keep_tasks.proofs.Opens.{ended-at-once, task-made, get-opens, get-unknown}
+use Rattle.keep_steps.proofs.Opens.{ended-at-once, task-made}
+use Rattle.keep_tasks.proofs.Opens.{get-opens, get-unknown}
 use Rattle.keep_tasks.proofs.Taking.{none_when}
 use Rattle.keep_tasks.proofs.get.GetTask.open.Goals as goal
 

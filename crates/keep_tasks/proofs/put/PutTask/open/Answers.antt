@@ -2,7 +2,8 @@ use Rattle.std.proofs.Common.{ap, sym, ◌∙◌}
 use Rattle.keep_spec.specs.Config.{token_of}
 use Rattle.keep_history.specs.declared.task.Task.TheVariants as T
 use Rattle.keep_tasks.specs.Openings.{made}
-use Rattle.keep_tasks.proofs.Opens.{ended-at-once, task-made, put-opens, put-unknown}
+use Rattle.keep_steps.proofs.Opens.{ended-at-once, task-made}
+use Rattle.keep_tasks.proofs.Opens.{put-opens, put-unknown}
 use Rattle.keep_tasks.proofs.Taking.{none_when}
 use Rattle.keep_tasks.proofs.put.PutTask.open.Goals as goal
 

@@ -1,5 +1,6 @@
 use Rattle.std.proofs.Common.{refl}
-use Rattle.keep_tasks.proofs.Opens.{task-made, restart-opens, restart-begins}
+use Rattle.keep_steps.proofs.Opens.{task-made}
+use Rattle.keep_tasks.proofs.Opens.{restart-opens, restart-begins}
 use Rattle.keep_tasks.proofs.restart.RestartTask.open.Goals as goal
 
 pub returns : goal.returns

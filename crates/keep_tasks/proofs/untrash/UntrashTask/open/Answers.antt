@@ -1,7 +1,8 @@
 use Rattle.std.proofs.Common.{ap, sym, ◌∙◌}
 use Rattle.keep_history.specs.declared.task.Task.TheVariants as T
 use Rattle.keep_tasks.specs.Openings.{made}
-use Rattle.keep_tasks.proofs.Opens.{ended-at-once, task-made, untrash-opens, untrash-unknown}
+use Rattle.keep_steps.proofs.Opens.{ended-at-once, task-made}
+use Rattle.keep_tasks.proofs.Opens.{untrash-opens, untrash-unknown}
 use Rattle.keep_tasks.proofs.Taking.{none_when}
 use Rattle.keep_tasks.proofs.untrash.UntrashTask.open.Goals as goal
 

@@ -1,5 +1,5 @@
 use Rattle.std.proofs.Common.{refl}
-use Rattle.keep_tasks.proofs.Opens.{task-made}
+use Rattle.keep_steps.proofs.Opens.{task-made}
 use Rattle.keep_workers.proofs.Empties.{empty-begins, empty-opens}
 use Rattle.keep_workers.proofs.empty.EmptyWorker.open.Goals as goal
 

@@ -1,6 +1,6 @@
 use Rattle.std.proofs.Common.{◌≡◌, ◌∙◌, ap, length, refl}
 use Rattle.keep_spec.specs.Config.{Configuration}
-use Rattle.keep_tasks.proofs.Opens.{task-made}
+use Rattle.keep_steps.proofs.Opens.{task-made}
 use Rattle.keep_workers.proofs.Pulls.{pull-begins, pull-may-ask, pull-opens}
 use Rattle.keep_workers.proofs.pull.PullWorker.open.Goals as goal
 

@@ -1,4 +1,4 @@
-use Rattle.keep_tasks.specs.Steps.{answered}
+use Rattle.keep_steps.specs.Steps.{answered}
 use Rattle.keep_workers.proofs.Pulls.{pull-taken}
 use Rattle.keep_workers.proofs.pull.PullWorkerSteps.take.Goals as goal
 

@@ -1,5 +1,5 @@
 use Rattle.std.proofs.Common.{refl}
-use Rattle.keep_tasks.proofs.Opens.{task-made}
+use Rattle.keep_steps.proofs.Opens.{task-made}
 use Rattle.keep_workers.proofs.Trashes.{trash-begins, trash-opens}
 use Rattle.keep_workers.proofs.trash.TrashWorker.open.Goals as goal
 
