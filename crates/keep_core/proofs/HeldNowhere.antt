@@ -71,5 +71,5 @@ last-safe c (e ∷ past) safe = safe.0
 
 pub never-unheld : {X : Type 0} (c : Configuration) (past : Past) (result : Result X Unsafe) → IsJudged c past result → IsAllowed c past → IsSteady c past → IsUnforged c past → (digest : List ℕ) → result ≡ Err (Unheld digest) → ⊥
 never-unheld c past (Ok x) j allowed steady unforged digest e = cc e
-never-unheld c past (Err (Unheld h)) j allowed steady unforged digest e = j.0 (last-safe c past (theorem c past allowed steady unforged).0)
+never-unheld c past (Err (Unheld h)) j allowed steady unforged digest e = j.0 (last-safe c past ((theorem c past allowed).1 steady unforged))
 never-unheld c past (Err NoMemory) j allowed steady unforged digest e = cc e

@@ -13,7 +13,6 @@ use Rattle.keep_spec.specs.Lines.{text_of}
 use Rattle.keep_event.specs.declared.event.Event.{Event}
 use Rattle.keep_safety.specs.History.{past_of}
 use Rattle.keep_safety.specs.Past.{Past}
-use Rattle.keep_safety.proofs.Safety.{kept}
 use Rattle.keep_safety.proofs.Theorem.{theorem}
 use Rattle.keep_history.specs.declared.task.Command.{Command}
 use Rattle.keep_history.specs.declared.task.Command.TheVariants as C
@@ -245,7 +244,7 @@ module _ (c : Configuration) (balances : ℕ → Bool) where
   pub each-beginning : (events : List Event) → AreSteps c actor_of balances (past_of events) → EachBeginning c events
   each-beginning events h = λ n.
       let run = runs-are-allowed c actor_of balances (past_of (take n events)) (first-steps events n h) in
-      let past = past_of (take n events) in record { allowed = run.allowed; kept = kept c past run.allowed; safe = λ steady unforged. let t = theorem c past run.allowed steady unforged in t.0 }
+      let t = theorem c (past_of (take n events)) run.allowed in record { allowed = run.allowed; kept = t.0; safe = t.1 }
 
 abbrev event_in : Made → Event
 event_in m = m.event

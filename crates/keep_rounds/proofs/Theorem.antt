@@ -214,4 +214,4 @@ pub runs-are-allowed : (c : Configuration) → RunsAreAllowed c
 runs-are-allowed c task_of balances past h = is-run c task_of balances past (all-stand c task_of balances past h)
 
 pub runs-are-safe : (c : Configuration) → RunsAreSafe c
-runs-are-safe c task_of balances events h steady unforged = histories-are-safe c events (runs-are-allowed c task_of balances (past_of events) h).allowed steady unforged
+runs-are-safe c task_of balances events h = histories-are-safe c events (runs-are-allowed c task_of balances (past_of events) h).allowed

@@ -14,7 +14,7 @@ pub fn runs_are_allowed()
     ensures { (c : Configuration) → RunsAreAllowed c }
 {}
 
-/// So what they leave is safe, while clocks agree up to the skew and no forged signature is accepted.
+/// So each trash step leaves enough, and while clocks agree up to the skew and no forged signature is accepted, what they leave is safe.
 pub fn runs_are_safe()
     ensures { (c : Configuration) → RunsAreSafe c }
 {}

@@ -282,4 +282,4 @@ throughout same c [] a s u = safe same c [] a s u
 throughout same c (e ∷ past) a s u = (safe same c (e ∷ past) a s u, throughout same c past a.1 s.1 u.1)
 
 pub signature-lifetime : SameDigests → (c : Configuration) → SignatureLifetime c
-signature-lifetime same c past a s u = (throughout same c past a s u, kept c past a)
+signature-lifetime same c past a = (kept c past a, throughout same c past a)

@@ -39,9 +39,9 @@ in-order : (n : ℕ) (events : List Event) → reverse events ≡ reverse (drop 
 in-order n events = ap reverse (sym (take-append-drop n events)) ∙ reverse-append (take n events) (drop n events)
 
 pub histories-are-safe : (c : Configuration) → HistoriesAreSafe c
-histories-are-safe c events a s u =
-    let t = theorem c (reverse events) a s u in
+histories-are-safe c events a =
+    let t = theorem c (reverse events) a in
     record {
-      safe = λ n. safe-first c (reverse (take n events)) (safe-behind c (reverse (drop n events)) (reverse (take n events)) (subst (IsSafeThroughout c) (in-order n events) t.0));
-      kept = t.1;
+      kept = t.0;
+      safe = λ s u n. safe-first c (reverse (take n events)) (safe-behind c (reverse (drop n events)) (reverse (take n events)) (subst (IsSafeThroughout c) (in-order n events) (t.1 s u)));
     }

@@ -12,10 +12,10 @@ use Rattle.keep_safety.specs.Times.{IsSteady}
 abbrev pub past_of : List Event → Past
 past_of events = reverse events
 
--- after each number of events the past is safe, and each trash step left enough
+-- each trash step left enough; and while clocks agree and no forged signature is accepted, the past is safe after each number of events
 pub record IsKeptSafe (c : Configuration) (events : List Event) : Type 0 where
-  pub safe : (n : ℕ) → IsSafe c (past_of (take n events))
   pub kept : IsKept c (past_of events)
+  pub safe : IsSteady c (past_of events) → IsUnforged c (past_of events) → (n : ℕ) → IsSafe c (past_of (take n events))
 
 abbrev pub HistoriesAreSafe : Configuration → Type 0
-HistoriesAreSafe c = (events : List Event) → IsAllowed c (past_of events) → IsSteady c (past_of events) → IsUnforged c (past_of events) → IsKeptSafe c events
+HistoriesAreSafe c = (events : List Event) → IsAllowed c (past_of events) → IsKeptSafe c events

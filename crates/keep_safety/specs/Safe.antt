@@ -53,4 +53,4 @@ IsSafeThroughout c (e ∷ past) = IsSafe c (e ∷ past) × IsSafeThroughout c pa
 
 -- THE SIGNATURE-LIFETIME THEOREM
 abbrev pub SignatureLifetime : Configuration → Type 0
-SignatureLifetime c = (past : Past) → IsAllowed c past → IsSteady c past → IsUnforged c past → IsSafeThroughout c past × IsKept c past
+SignatureLifetime c = (past : Past) → IsAllowed c past → IsKept c past × (IsSteady c past → IsUnforged c past → IsSafeThroughout c past)
