@@ -43,7 +43,7 @@ c = record {
 }
 
 -- the MD5 of `abc`
-abbrev h : List ℕ
+abbrev pub h : List ℕ
 h = 144 ∷ 1 ∷ 80 ∷ 152 ∷ 60 ∷ 210 ∷ 79 ∷ 176 ∷ 214 ∷ 150 ∷ 63 ∷ 125 ∷ 40 ∷ 225 ∷ 127 ∷ 114 ∷ []
 
 abbrev item : TrashItem

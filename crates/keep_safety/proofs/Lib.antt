@@ -26,3 +26,4 @@ pub mod Tables
 pub mod Theorem
 pub mod Unlisted
 pub mod Texts
+pub mod Premises
