@@ -513,7 +513,7 @@ module _ {S : Type 0} (told : S → Told) (bytes : List ℕ) (before : Option (L
       ran-misfit told bytes before starts old tell-told status unread written g.piece (cut rest) w g.first (subst (λ x. verdict_of 1048576 1073741824 0 (length x) (length g.piece) ≡ fits) g.text_is g.fits_in)
       (subst (λ k. IsConfigRefusal status (config_for k (text_of g.piece))) told-n (subst (λ x. IsConfigRefusal status (config_for n x)) g.text_is r))
 
--- ---- the headline
+-- ---- what a run did, whole
 
 pub well-ran : (old new : List Told) (bytes : List ℕ) (before : Option (List ℕ)) (starts : List Kept) (status : Status) (unread written : Option (List ℕ)) → StoresRan old new bytes before starts status unread written → RanWell old new bytes before starts status unread written
 well-ran old new bytes before starts status unread written r = record {

@@ -160,7 +160,7 @@ pub record StoresRan (old new : List Told) (bytes : List ℕ) (before : Option (
   pub written_is : Appends before written work.text
   pub ran : Ran starts bytes status unread (counts old) (counts new) work
 
--- THE HEADLINE
+-- ---- the whole statement
 -- Such a run, and of what it did, the one history that it printed and left: each beginning of it may happen, each trash step left enough, and where it is steady and unforged each moment is safe; the devices' stores keep what it leaves. Where all lines are script lines, with the events that failed, the run is done, or memory was wanted, or the source, the sink or a store at opening failed.
 pub record RanWell (old new : List Told) (bytes : List ℕ) (before : Option (List ℕ)) (starts : List Kept) (status : Status) (unread : Option (List ℕ)) (written : Option (List ℕ)) : Type 0 where
   pub ran : StoresRan old new bytes before starts status unread written

@@ -142,7 +142,7 @@ pub fn run_call<R: Source, W: Sink, S: Store>(
     stores: &mut Vec<S>,
 ) -> Status
     ensures words { (result ≡ Status.BadWords) ↔ (is_run words.now ≡ false) }
-    ensures headline { is_run words.now ≡ true → (bytes : List ℕ) → (starts : List Kept) → R.left source.old ≡ Some bytes
+    ensures ran_well { is_run words.now ≡ true → (bytes : List ℕ) → (starts : List Kept) → R.left source.old ≡ Some bytes
         → FirstTell (devices_in (vec_len stores.old) bytes) (told_by S.held S.noted S.faults stores.old.items) starts
         → RanWell (told_by S.held S.noted S.faults stores.old.items) (told_by S.held S.noted S.faults stores.new.items) bytes (W.taken sink.old) starts result (R.left source.new) (W.taken sink.new) }
     ensures reads { IfSome (R.left source.old) (λ bytes. (failed : List ℕ) → ReadsAreOfPuts (vec_len stores.old) failed bytes) }

@@ -8,8 +8,8 @@ use Rattle.keep_run.proofs.Inputs.{well-ran}
 use Rattle.keep_run.proofs.Saves.{told-saves}
 use Rattle.keep_run.proofs.call.run_call.Goals as goal
 
-pub returns-clause-headline : goal.returns-clause-headline
-returns-clause-headline g c = λ words bytes starts left tell. well-ran _ _ bytes _ starts _ _ _ (search rules)
+pub returns-clause-ran_well : goal.returns-clause-ran_well
+returns-clause-ran_well g c = λ words bytes starts left tell. well-ran _ _ bytes _ starts _ _ _ (search rules)
 
 pub returns-then-not-is_run-clause-reads : goal.returns-then-not-is_run-clause-reads
 returns-then-not-is_run-clause-reads g c = told-reads _ _
