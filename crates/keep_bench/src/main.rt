@@ -239,40 +239,45 @@ fn lists(rt: &HostRuntime, input: &[u8]) -> Result<()> {
     Ok(())
 }
 
+// Does the task of a name.
+fn run_task(rt: &HostRuntime, task: &str, input: &[u8]) -> Result<()> {
+    match task {
+        "manifest" => read_manifest(rt, input),
+        "locators" => read_locators(rt, input),
+        "sign" => sign(rt, input),
+        "config" => read_configurations(rt, input),
+        "volume" => put_blocks(rt, input),
+        "normal" => normal(rt, input),
+        "requests" => wire::read_requests(rt, input, 65536),
+        "requests-by-byte" => wire::read_requests(rt, input, 1),
+        "heads" => wire::parse_heads(rt, input),
+        "order" => orders(rt, input),
+        "index" => index(rt, input, true),
+        "read-index" => index(rt, input, false),
+        "lists" => lists(rt, input),
+        "make-files" => files::make(rt, input),
+        "pack" => files::pack(rt, input),
+        "unpack" => files::pack_and_unpack(rt, input),
+        "histories" => histories::ask(rt, input),
+        "gather" => plans::plan(rt, input, false),
+        "plan" => plans::plan(rt, input, true),
+        "script" => scripts::read_script(rt, input),
+        "read" => scripts::measure_input(rt, input),
+        "split-lines" => scripts::split_lines(rt, input),
+        "lend-lines" => scripts::lend_lines(rt, input),
+        "parse-lines" => scripts::parse_lines(rt, input),
+        "decode-lines" => scripts::decode_lines(rt, input),
+        "table" => tables::time_table(rt, input),
+        "versions" => tables::time_versions(rt, input),
+        _ => Ok(println!(rt; "no task {task}")?),
+    }
+}
+
 fn main(rt: HostRuntime) -> Result<()> {
     let mut input = Vec::new(rt.alloc());
     rt.reader().read_to_end(&mut input)?;
     for task in env::args(&rt)?.skip(1) {
-        match task.as_str() {
-            "manifest" => read_manifest(&rt, &input)?,
-            "locators" => read_locators(&rt, &input)?,
-            "sign" => sign(&rt, &input)?,
-            "config" => read_configurations(&rt, &input)?,
-            "volume" => put_blocks(&rt, &input)?,
-            "normal" => normal(&rt, &input)?,
-            "requests" => wire::read_requests(&rt, &input, 65536)?,
-            "requests-by-byte" => wire::read_requests(&rt, &input, 1)?,
-            "heads" => wire::parse_heads(&rt, &input)?,
-            "order" => orders(&rt, &input)?,
-            "index" => index(&rt, &input, true)?,
-            "read-index" => index(&rt, &input, false)?,
-            "lists" => lists(&rt, &input)?,
-            "make-files" => files::make(&rt, &input)?,
-            "pack" => files::pack(&rt, &input)?,
-            "unpack" => files::pack_and_unpack(&rt, &input)?,
-            "histories" => histories::ask(&rt, &input)?,
-            "gather" => plans::plan(&rt, &input, false)?,
-            "plan" => plans::plan(&rt, &input, true)?,
-            "script" => scripts::read_script(&rt, &input)?,
-            "read" => scripts::measure_input(&rt, &input)?,
-            "split-lines" => scripts::split_lines(&rt, &input)?,
-            "lend-lines" => scripts::lend_lines(&rt, &input)?,
-            "parse-lines" => scripts::parse_lines(&rt, &input)?,
-            "decode-lines" => scripts::decode_lines(&rt, &input)?,
-            "table" => tables::time_table(&rt, &input)?,
-            "versions" => tables::time_versions(&rt, &input)?,
-            _ => println!(rt; "no task {task}")?,
-        }
+        run_task(&rt, task.as_str(), &input)?;
     }
     Ok(())
 }
