@@ -2,13 +2,16 @@
 //! The README of `keep_cases` says how a case is written, and how a subject is added.
 #![tactic(auto)]
 
+mod copies;
 mod counted;
 mod devices;
+mod moments;
 mod plans;
 mod safety;
 mod subjects;
 mod tables;
 mod tasks;
+mod volumes;
 mod worlds;
 
 use crate::subjects::Cases;

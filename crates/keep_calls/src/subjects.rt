@@ -1,5 +1,5 @@
 // The subjects: which module answers the cases of a file.
-use crate::{devices, plans, safety, tables, tasks, worlds};
+use crate::{devices, moments, plans, safety, tables, tasks, worlds};
 use keep_casebook::{Answer, Case, Subjects};
 use std::alloc::Global;
 
@@ -11,6 +11,7 @@ impl Subjects for Cases {
     fn answer_to(&self, alloc: Global, subject: &str, case: &Case, answer: &mut Answer) -> bool {
         match subject {
             "devices" => devices::answer(alloc, case, answer),
+            "moments" => moments::answer(alloc, case, answer),
             "plans" => plans::answer(alloc, case, answer),
             "safety" => safety::answer(alloc, case, answer),
             "tables" => tables::answer(alloc, case, answer),

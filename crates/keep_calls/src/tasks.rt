@@ -1,18 +1,17 @@
-// Tasks over a cluster of three devices: the first line of the input is a configuration, and each further one a reading and what is asked: `put SERVER TOKEN BYTES`,
+// Tasks over a cluster: the first line of the input is a configuration, and each further one a reading and what is asked: `put SERVER TOKEN BYTES`,
 // `get SERVER TOKEN LOCATOR`, `touch SERVER TOKEN LOCATOR`, `untrash SERVER TOKEN BLOCK`, `restart DEVICE`, or a query of the table as in `tables`. Bytes and blocks
 // are texts. Settings: `port_fails` lists the calls of the port that fail, counted anew for each line, `fails DEVICE CALLS` the calls of a device's store, and
 // `held DEVICE ..` is what it holds. The answer is the printed line of each step's event, `t failed` for a step that failed, the line of the task's end, and at last what
 // the stores hold.
-ghost use Rattle.std.specs.Prelude.{◌≡◌, ◌<◌, length, true, false, IfOk};
-ghost use Rattle.keep_event.specs.World as world;
+ghost use Rattle.std.specs.Prelude.{◌≡◌, ◌<◌, length};
 ghost use Rattle.keep_event.specs.Requests.{MayAskTable};
 ghost use Rattle.keep_history.specs.Tasks.{is_task_query};
-ghost use Rattle.keep_cluster.specs.Cluster.{HasDevices};
 
 use crate::devices::digest_of;
 use crate::tables::query_of;
-use keep_casebook::{Answer, Case, OutOfMemory, answer_store, numbers_of, put_held};
-use keep_cluster::{Cluster, device_rules};
+use crate::volumes::volumes_of;
+use keep_casebook::{Answer, Case, OutOfMemory, answer_store, numbers_of};
+use keep_cluster::Cluster;
 use keep_config::Config;
 use keep_event::{Answer as Reply, FailingPort, Port, PortError, Query, TableQuery};
 use keep_history::Outcome;
@@ -21,7 +20,6 @@ use keep_spec::{Bytes, NoMemory};
 use keep_steps::{Opened, Step, Steps};
 use keep_store::MemoryStore;
 use keep_tasks::{GetTask, PutTask, RestartTask, TableTask, TouchTask, UntrashTask};
-use keep_volume::Volume;
 use std::alloc::Global;
 use std::str::from_utf8;
 
@@ -47,9 +45,6 @@ pub fn answer(alloc: Global, case: &Case, answer: &mut Answer) {
     let Ok(config) = Config::read(alloc, first) else {
         return answer.value(b"no configuration");
     };
-    if config.devices.len() != 3 {
-        return answer.value(b"not three devices");
-    }
     if answer_lines(alloc, case, &config, answer).is_err() {
         answer.cut();
     }
@@ -61,11 +56,9 @@ fn answer_lines(
     case: &Case,
     config: &Config,
     answer: &mut Answer,
-) -> Result<(), OutOfMemory>
-    requires { length config.now.devices ≡ 3 }
-{
+) -> Result<(), OutOfMemory> {
     let fails = numbers_of(alloc, case.value("port_fails").unwrap_or(""))?;
-    let volumes = devices(alloc, case, config)?;
+    let volumes = volumes_of(alloc, case, config)?;
     let cluster = Cluster::new(alloc, config, volumes);
     let mut desk = Desk { config, cluster };
     for line in case.body().split(|byte| *byte == b'\n').skip(1) {
@@ -79,54 +72,6 @@ fn answer_lines(
         number = number.saturating_add(1);
     }
     Ok(())
-}
-
-// The device of a number, by what the case says that its store holds.
-fn device(
-    alloc: Global,
-    case: &Case,
-    config: &Config,
-    number: u32,
-) -> Result<Volume<MemoryStore>, OutOfMemory>
-    requires { number < length config.now.devices }
-    ensures { IfOk result (λ v. v.rules ≡ world.device_rules config.now number) }
-{
-    let mut fails = "";
-    for setting in case.settings() {
-        let (device, rest) = setting.value.split_once(' ').unwrap_or(("", ""));
-        if setting.key == "fails" && device.parse::<u32>() == Ok(number) {
-            fails = rest;
-        }
-    }
-    let mut store = MemoryStore::new(alloc, numbers_of(alloc, fails)?);
-    for setting in case.settings() {
-        let (device, rest) = setting.value.split_once(' ').unwrap_or(("", ""));
-        if setting.key == "held" && device.parse::<u32>() == Ok(number) {
-            put_held(alloc, &mut store, rest)?;
-        }
-    }
-    match Volume::open(alloc, store, device_rules(config, number)) {
-        Ok(volume) => Ok(volume),
-        Err(_) => Err(OutOfMemory),
-    }
-}
-
-fn devices(
-    alloc: Global,
-    case: &Case,
-    config: &Config,
-) -> Result<Vec<Volume<MemoryStore>>, OutOfMemory>
-    requires { length config.now.devices ≡ 3 }
-    ensures { IfOk result (λ v. HasDevices config.now v.items) }
-{
-    let first = device(alloc, case, config, 0)?;
-    let second = device(alloc, case, config, 1)?;
-    let third = device(alloc, case, config, 2)?;
-    let mut volumes = Vec::new(alloc);
-    volumes.push(first)?;
-    volumes.push(second)?;
-    volumes.push(third)?;
-    Ok(volumes)
 }
 
 impl<'a> Desk<'a> {
