@@ -1,7 +1,9 @@
 // Files packed and unpacked: the first 10,000 KiB of the input are files of 1 KiB, in directories of 100, the rest is one file.
 ghost use Rattle.keep_spec.specs.Manifest.{IsGood};
 
+use crate::print_line;
 use anyhow::Result;
+use keep_event::Block;
 use keep_files::{FileIn, Packed, pack_files, unpack};
 use keep_manifest::{Manifest, is_good, read};
 use keep_spec::{Bytes, Digest};
@@ -42,14 +44,15 @@ pub fn make(rt: &HostRuntime, input: &[u8]) -> Result<()> {
 /// Packs the files into blocks of 64 MiB.
 pub fn pack(rt: &HostRuntime, input: &[u8]) -> Result<()> {
     match packed(rt.alloc(), input)? {
-        Some(packed) => {
-            let blocks = packed.blocks.len();
-            let size = packed.text.len();
-            println!(rt; "{blocks} blocks, a manifest of {size} bytes")?;
-        }
-        None => println!(rt; "not packed")?,
+        Some(packed) => print_packed(rt, &packed),
+        None => print_line(rt, "not packed"),
     }
-    Ok(())
+}
+
+fn print_packed(rt: &HostRuntime, packed: &Packed) -> Result<()> {
+    let blocks = packed.blocks.len();
+    let size = packed.text.len();
+    Ok(println!(rt; "{blocks} blocks, a manifest of {size} bytes")?)
 }
 
 fn packed(alloc: Global, input: &[u8]) -> Result<Option<Packed>> {
@@ -59,19 +62,27 @@ fn packed(alloc: Global, input: &[u8]) -> Result<Option<Packed>> {
 
 /// Packs the files, lets them go, and unpacks them again.
 pub fn pack_and_unpack(rt: &HostRuntime, input: &[u8]) -> Result<()> {
-    let Some(Packed { blocks, text }) = packed(rt.alloc(), input)? else {
-        println!(rt; "not packed")?;
-        return Ok(());
-    };
-    let mut stored = BTreeMap::new(rt.alloc());
-    for block in blocks.into_vec() {
+    match packed(rt.alloc(), input)? {
+        Some(packed) => unpack_again(rt, packed),
+        None => print_line(rt, "not packed"),
+    }
+}
+
+fn stored_of(alloc: Global, blocks: Vec<Block>) -> Result<BTreeMap<Digest, Bytes>> {
+    let mut stored = BTreeMap::new(alloc);
+    for block in blocks {
         stored.insert(block.digest(), block.into_bytes())?;
     }
+    Ok(stored)
+}
+
+fn unpack_again(rt: &HostRuntime, packed: Packed) -> Result<()> {
+    let Packed { blocks, text } = packed;
+    let stored = stored_of(rt.alloc(), blocks.into_vec())?;
     match read(rt.alloc(), text.as_slice()) {
-        Ok(manifest) if is_good(&manifest) => print_files(rt, &manifest, &stored)?,
-        _ => println!(rt; "no manifest")?,
+        Ok(manifest) if is_good(&manifest) => print_files(rt, &manifest, &stored),
+        _ => print_line(rt, "no manifest"),
     }
-    Ok(())
 }
 
 fn print_files(
@@ -82,15 +93,16 @@ fn print_files(
     requires { IsGood manifest.now }
 {
     match unpack(rt.alloc(), manifest, stored) {
-        Ok(files) => {
-            let count = files.len();
-            let mut bytes: u64 = 0;
-            for file in &files {
-                bytes = bytes.saturating_add(file.bytes.len() as u64);
-            }
-            println!(rt; "{count} files, {bytes} bytes")?;
-        }
-        Err(_) => println!(rt; "not unpacked")?,
+        Ok(files) => print_total(rt, &files),
+        Err(_) => print_line(rt, "not unpacked"),
     }
-    Ok(())
+}
+
+fn print_total(rt: &HostRuntime, files: &[FileIn]) -> Result<()> {
+    let count = files.len();
+    let mut bytes: u64 = 0;
+    for file in files {
+        bytes = bytes.saturating_add(file.bytes.len() as u64);
+    }
+    Ok(println!(rt; "{count} files, {bytes} bytes")?)
 }

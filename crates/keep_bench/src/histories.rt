@@ -1,5 +1,5 @@
 //! Whether a made history is safe, asked after each of its events. The input is a configuration's line, and then the number of events.
-use crate::split_line;
+use crate::{print_line, read_config};
 use anyhow::Result;
 use keep_config::Config;
 use keep_core::safe_at;
@@ -173,23 +173,27 @@ fn request_of(alloc: Global, digest: &Digest) -> Result<SaveRequest> {
     })
 }
 
-// After how many of the events the history is safe.
-fn judge(rt: &HostRuntime, config: &Config, count: u64) -> Result<()> {
-    let alloc = rt.alloc();
+// After how many of the events the history is safe; none where a block could not be made.
+fn count_safe(alloc: Global, config: &Config, count: u64) -> Result<Option<u64>> {
     let mut events = Vec::new(alloc);
     let mut safe: u64 = 0;
     for tick in 0..count {
         let Some(event) = event_of(alloc, config, tick)? else {
-            println!(rt; "no block")?;
-            return Ok(());
+            return Ok(None);
         };
         events.push(event)?;
         if safe_at(alloc, config, &events).is_ok() {
             safe = safe.saturating_add(1);
         }
     }
-    println!(rt; "{safe} of {count} safe")?;
-    Ok(())
+    Ok(Some(safe))
+}
+
+fn judge(rt: &HostRuntime, config: &Config, count: u64) -> Result<()> {
+    match count_safe(rt.alloc(), config, count)? {
+        Some(safe) => Ok(println!(rt; "{safe} of {count} safe")?),
+        None => print_line(rt, "no block"),
+    }
 }
 
 fn count_of(line: &[u8]) -> Option<u64> {
@@ -198,13 +202,11 @@ fn count_of(line: &[u8]) -> Option<u64> {
 
 // Asks after each event of the history that the input describes.
 pub fn ask(rt: &HostRuntime, input: &[u8]) -> Result<()> {
-    let Some((line, rest)) = split_line(input) else {
-        println!(rt; "no configuration")?;
-        return Ok(());
+    let Some((config, rest)) = read_config(rt.alloc(), input) else {
+        return print_line(rt, "no configuration");
     };
-    let (Ok(config), Some(count)) = (Config::read(rt.alloc(), line), count_of(rest)) else {
-        println!(rt; "no configuration, or no number")?;
-        return Ok(());
-    };
-    judge(rt, &config, count)
+    match count_of(rest) {
+        Some(count) => judge(rt, &config, count),
+        None => print_line(rt, "no number"),
+    }
 }

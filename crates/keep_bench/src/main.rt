@@ -1,6 +1,8 @@
 //! Times what a library does alone: takes the name of a task, reads its input from standard input, and prints a few counts.
 #![tactic(auto)]
 
+ghost use Rattle.keep_spec.specs.Manifest.{IsGood};
+
 mod files;
 mod histories;
 mod plans;
@@ -24,6 +26,11 @@ use std::alloc::Global;
 use std::env;
 use std::io::{Read, Write, writer};
 
+/// Prints a line.
+pub fn print_line(rt: &HostRuntime, line: &str) -> Result<()> {
+    Ok(println!(rt; "{line}")?)
+}
+
 // How many streams, locators and segments a manifest has.
 fn counts(manifest: &Manifest) -> (u64, u64, u64) {
     let mut locators: u64 = 0;
@@ -37,19 +44,26 @@ fn counts(manifest: &Manifest) -> (u64, u64, u64) {
     (streams, locators, segments)
 }
 
+fn print_counts(rt: &HostRuntime, manifest: &Manifest) -> Result<()> {
+    let (streams, locators, segments) = counts(manifest);
+    Ok(println!(rt; "{streams} streams, {locators} locators, {segments} segments")?)
+}
+
+fn print_bad_manifest(rt: &HostRuntime, bad: &BadManifest) -> Result<()> {
+    match bad {
+        BadManifest::Refused(refusal) => {
+            let at = refusal.at;
+            Ok(println!(rt; "refused at {at}")?)
+        }
+        BadManifest::NoMemory => print_line(rt, "no memory"),
+    }
+}
+
 fn read_manifest(rt: &HostRuntime, input: &[u8]) -> Result<()> {
     match read(rt.alloc(), input) {
-        Ok(manifest) => {
-            let (streams, locators, segments) = counts(&manifest);
-            println!(rt; "{streams} streams, {locators} locators, {segments} segments")?;
-        }
-        Err(BadManifest::Refused(refusal)) => {
-            let at = refusal.at;
-            println!(rt; "refused at {at}")?;
-        }
-        Err(BadManifest::NoMemory) => println!(rt; "no memory")?,
+        Ok(manifest) => print_counts(rt, &manifest),
+        Err(bad) => print_bad_manifest(rt, &bad),
     }
-    Ok(())
 }
 
 // One locator a line.
@@ -80,15 +94,10 @@ fn sign(rt: &HostRuntime, input: &[u8]) -> Result<()> {
     match sign_manifest(rt.alloc(), input, b"alice", 1700000000, 1209600, b"sesame") {
         Ok(text) => {
             let size = text.len();
-            println!(rt; "{size} bytes signed")?;
+            Ok(println!(rt; "{size} bytes signed")?)
         }
-        Err(BadManifest::Refused(refusal)) => {
-            let at = refusal.at;
-            println!(rt; "refused at {at}")?;
-        }
-        Err(BadManifest::NoMemory) => println!(rt; "no memory")?,
+        Err(bad) => print_bad_manifest(rt, &bad),
     }
-    Ok(())
 }
 
 fn device(alloc: Global) -> Option<Volume<MemoryStore>> {
@@ -113,46 +122,59 @@ fn is_written(device: &mut Volume<MemoryStore>, block: &Block) -> bool {
     )
 }
 
-// One block a line, put into a device that keeps them in memory.
-fn put_blocks(rt: &HostRuntime, input: &[u8]) -> Result<()> {
-    let Some(mut device) = device(rt.alloc()) else {
-        println!(rt; "no device")?;
-        return Ok(());
-    };
+// How many blocks were written of these, one a line.
+fn count_written(
+    alloc: Global,
+    device: &mut Volume<MemoryStore>,
+    input: &[u8],
+) -> std::result::Result<u64, NoMemory> {
     let mut written: u64 = 0;
     for line in input.split(|byte| *byte == b'\n') {
-        let bytes = Bytes::of(Vec::from_slice(rt.alloc(), line)?);
+        let bytes = Bytes::of(Vec::from_slice(alloc, line)?);
         let Ok(block) = Block::of(bytes) else {
             continue;
         };
-        if is_written(&mut device, &block) {
+        if is_written(device, &block) {
             written = written.saturating_add(1);
         }
     }
-    println!(rt; "{written} blocks")?;
-    Ok(())
+    Ok(written)
+}
+
+// One block a line, put into a device that keeps them in memory.
+fn put_blocks(rt: &HostRuntime, input: &[u8]) -> Result<()> {
+    let Some(mut device) = device(rt.alloc()) else {
+        return print_line(rt, "no device");
+    };
+    match count_written(rt.alloc(), &mut device, input) {
+        Ok(written) => Ok(println!(rt; "{written} blocks")?),
+        Err(_) => print_line(rt, "no memory"),
+    }
 }
 
 // The normal form of a manifest, written.
 fn normal(rt: &HostRuntime, input: &[u8]) -> Result<()> {
-    let Ok(manifest) = read(rt.alloc(), input) else {
-        println!(rt; "no manifest")?;
-        return Ok(());
-    };
-    match normalize(rt.alloc(), &manifest) {
-        Ok(normal) => print_text(rt, write(rt.alloc(), &normal))?,
-        Err(NormalError::TooLarge) => println!(rt; "too large")?,
-        Err(NormalError::NoMemory) => println!(rt; "no memory")?,
+    match read(rt.alloc(), input) {
+        Ok(manifest) => print_normal(rt, &manifest),
+        Err(_) => print_line(rt, "no manifest"),
     }
-    Ok(())
+}
+
+fn print_normal(rt: &HostRuntime, manifest: &Manifest) -> Result<()>
+    requires { IsGood manifest.now }
+{
+    match normalize(rt.alloc(), manifest) {
+        Ok(normal) => print_text(rt, write(rt.alloc(), &normal)),
+        Err(NormalError::TooLarge) => print_line(rt, "too large"),
+        Err(NormalError::NoMemory) => print_line(rt, "no memory"),
+    }
 }
 
 fn print_text(rt: &HostRuntime, text: std::result::Result<Bytes, NoMemory>) -> Result<()> {
     match text {
-        Ok(text) => writer(rt).write_all(text.as_slice())?,
-        Err(_) => println!(rt; "no memory")?,
+        Ok(text) => Ok(writer(rt).write_all(text.as_slice())?),
+        Err(_) => print_line(rt, "no memory"),
     }
-    Ok(())
 }
 
 // The first line is a configuration, the rest a text; none where there is no newline.
@@ -162,81 +184,97 @@ fn split_line(input: &[u8]) -> Option<(&[u8], &[u8])> {
     Some((line, rest.get(1..).unwrap_or(b"")))
 }
 
-// One block's digits a line: the order of the configuration's servers for each.
-fn orders(rt: &HostRuntime, input: &[u8]) -> Result<()> {
-    let Some((line, rest)) = split_line(input) else {
-        println!(rt; "no configuration")?;
-        return Ok(());
-    };
-    let Ok(config) = Config::read(rt.alloc(), line) else {
-        println!(rt; "no configuration")?;
-        return Ok(());
-    };
-    let mut services: Vec<Uuid> = Vec::new(rt.alloc());
-    for server in config.servers.as_slice() {
-        services.push(server.uuid)?;
-    }
+// How many blocks have an order, one block's digits a line, and how many of them begin with server 0.
+fn count_orders(
+    alloc: Global,
+    services: &[Uuid],
+    input: &[u8],
+) -> std::result::Result<(u64, u64), NoMemory> {
     let mut first: u64 = 0;
     let mut blocks: u64 = 0;
-    for text in rest.split(|byte| *byte == b'\n') {
+    for text in input.split(|byte| *byte == b'\n') {
         let Some(digest) = Digest::read(text) else {
             continue;
         };
-        let Ok(places) = order(rt.alloc(), &digest, &services) else {
-            continue;
-        };
+        let places = order(alloc, &digest, services)?;
         blocks = blocks.saturating_add(1);
         if places.first() == Some(&0) {
             first = first.saturating_add(1);
         }
     }
-    println!(rt; "{blocks} blocks, {first} on server 0")?;
-    Ok(())
+    Ok((blocks, first))
+}
+
+fn services_of(alloc: Global, config: &Config) -> Result<Vec<Uuid>> {
+    let mut services = Vec::new(alloc);
+    for server in config.servers.as_slice() {
+        services.push(server.uuid)?;
+    }
+    Ok(services)
+}
+
+fn print_orders(rt: &HostRuntime, services: &[Uuid], input: &[u8]) -> Result<()> {
+    match count_orders(rt.alloc(), services, input) {
+        Ok((blocks, first)) => Ok(println!(rt; "{blocks} blocks, {first} on server 0")?),
+        Err(_) => print_line(rt, "no memory"),
+    }
+}
+
+// The configuration of the first line, and what follows it.
+fn read_config(alloc: Global, input: &[u8]) -> Option<(Config, &[u8])> {
+    let (line, rest) = split_line(input)?;
+    let config = Config::read(alloc, line).ok()?;
+    Some((config, rest))
+}
+
+// One block's digits a line: the order of the configuration's servers for each.
+fn orders(rt: &HostRuntime, input: &[u8]) -> Result<()> {
+    let Some((config, rest)) = read_config(rt.alloc(), input) else {
+        return print_line(rt, "no configuration");
+    };
+    let services = services_of(rt.alloc(), &config)?;
+    print_orders(rt, &services, rest)
+}
+
+// What is said of a text that was written again.
+fn compared(text: std::result::Result<Bytes, NoMemory>, input: &[u8]) -> &'static str {
+    match text {
+        Ok(text) if text.as_slice() == input => "written again",
+        Ok(_) => "written otherwise",
+        Err(_) => "no memory",
+    }
 }
 
 // An index, read and written again.
 fn index(rt: &HostRuntime, input: &[u8], is_written: bool) -> Result<()> {
     let Ok(entries) = read_index(rt.alloc(), input) else {
-        println!(rt; "no index")?;
-        return Ok(());
+        return print_line(rt, "no index");
     };
     let count = entries.len();
     if !is_written {
-        println!(rt; "{count} entries")?;
-        return Ok(());
+        return Ok(println!(rt; "{count} entries")?);
     }
-    match write_index(rt.alloc(), &entries) {
-        Ok(text) if text.as_slice() == input => println!(rt; "{count} entries, written again")?,
-        Ok(_) => println!(rt; "{count} entries, written otherwise")?,
-        Err(_) => println!(rt; "no memory")?,
-    }
-    Ok(())
+    let again = compared(write_index(rt.alloc(), &entries), input);
+    Ok(println!(rt; "{count} entries, {again}")?)
 }
 
-// A configuration's line, and the lists of its device 0, read and written again.
-fn lists(rt: &HostRuntime, input: &[u8]) -> Result<()> {
-    let Some((line, text)) = split_line(input) else {
-        println!(rt; "no configuration")?;
-        return Ok(());
-    };
-    let Ok(config) = Config::read(rt.alloc(), line) else {
-        println!(rt; "no configuration")?;
-        return Ok(());
-    };
-    let Ok(lists) = read_lists(rt.alloc(), text, &config, 0) else {
-        println!(rt; "no lists")?;
-        return Ok(());
+// The lists of device 0, read and written again.
+fn print_lists(rt: &HostRuntime, config: &Config, text: &[u8]) -> Result<()> {
+    let Ok(lists) = read_lists(rt.alloc(), text, config, 0) else {
+        return print_line(rt, "no lists");
     };
     let trash = lists.trash.len();
     let pull = lists.pull.len();
-    match write_lists(rt.alloc(), &lists, &config, 0) {
-        Ok(again) if again.as_slice() == text => println!(rt;
-            "{trash} trash, {pull} pull, written again"
-        )?,
-        Ok(_) => println!(rt; "{trash} trash, {pull} pull, written otherwise")?,
-        Err(_) => println!(rt; "no memory")?,
+    let again = compared(write_lists(rt.alloc(), &lists, config, 0), text);
+    Ok(println!(rt; "{trash} trash, {pull} pull, {again}")?)
+}
+
+// A configuration's line, and the lists of its device 0.
+fn lists(rt: &HostRuntime, input: &[u8]) -> Result<()> {
+    match read_config(rt.alloc(), input) {
+        Some((config, text)) => print_lists(rt, &config, text),
+        None => print_line(rt, "no configuration"),
     }
-    Ok(())
 }
 
 // Does the task of a name.

@@ -1,6 +1,6 @@
 //! Plans of a round. The input is a configuration's line; for each device the length of an index in bytes, as a line, and the index; and then one wanted
 //! digest a line, and whatever follows it there. A hundred of these make a row of the table, and two copies are wanted of each.
-use crate::split_line;
+use crate::{print_line, read_config, split_line};
 use anyhow::Result;
 use keep_config::Config;
 use keep_event::ScanRow;
@@ -71,13 +71,6 @@ fn gathered(alloc: Global, config: &Config, input: &[u8]) -> Result<Option<Gathe
     Ok(Some(gather))
 }
 
-// The configuration of the first line, and what follows it.
-fn read_config(alloc: Global, input: &[u8]) -> Option<(Config, &[u8])> {
-    let (line, rest) = split_line(input)?;
-    let config = Config::read(alloc, line).ok()?;
-    Some((config, rest))
-}
-
 // How many items and lost digests a plan has.
 fn print_plan(rt: &HostRuntime, plan: &Plan) -> Result<()> {
     let mut trash: u64 = 0;
@@ -94,15 +87,15 @@ fn print_plan(rt: &HostRuntime, plan: &Plan) -> Result<()> {
 fn plan_gathered(rt: &HostRuntime, config: &Config, gather: &Gather) -> Result<()> {
     match Plan::of(rt.alloc(), gather, config) {
         Ok(plan) => print_plan(rt, &plan),
-        Err(_) => Ok(println!(rt; "no memory")?),
+        Err(_) => print_line(rt, "no memory"),
     }
 }
 
 fn gather_and_plan(rt: &HostRuntime, config: &Config, rest: &[u8], is_planned: bool) -> Result<()> {
     match gathered(rt.alloc(), config, rest)? {
         Some(gather) if is_planned => plan_gathered(rt, config, &gather),
-        Some(_) => Ok(println!(rt; "gathered")?),
-        None => Ok(println!(rt; "no pages")?),
+        Some(_) => print_line(rt, "gathered"),
+        None => print_line(rt, "no pages"),
     }
 }
 
@@ -110,6 +103,6 @@ fn gather_and_plan(rt: &HostRuntime, config: &Config, rest: &[u8], is_planned: b
 pub fn plan(rt: &HostRuntime, input: &[u8], is_planned: bool) -> Result<()> {
     match read_config(rt.alloc(), input) {
         Some((config, rest)) => gather_and_plan(rt, &config, rest, is_planned),
-        None => Ok(println!(rt; "no configuration")?),
+        None => print_line(rt, "no configuration"),
     }
 }

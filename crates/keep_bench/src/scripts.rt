@@ -1,6 +1,7 @@
 // Script lines: the whole reading of one, and each step of it by itself.
 ghost use Rattle.std.specs.Prelude.{◌≤◌};
 
+use crate::print_line;
 use anyhow::Result;
 use keep_base::{Lines, ReaderSource};
 use keep_config::Config;
@@ -14,8 +15,7 @@ use std::collections::BTreeMap;
 pub fn read_script(rt: &HostRuntime, input: &[u8]) -> Result<()> {
     let mut lines = input.split(|byte| *byte == b'\n');
     let Ok(config) = Config::read(rt.alloc(), lines.next().unwrap_or(b"")) else {
-        println!(rt; "no configuration")?;
-        return Ok(());
+        return print_line(rt, "no configuration");
     };
     let names: BTreeMap<Bytes, TaskState<()>> = BTreeMap::new(rt.alloc());
     let mut commands: u64 = 0;

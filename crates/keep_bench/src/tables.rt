@@ -162,35 +162,39 @@ fn time_sweep(rt: &HostRuntime, table: &mut Table, name: &str) -> Result<()> {
                 versions,
                 collections,
             },
-        ) => {
-            let done = versions.saturating_add(collections);
-            let each = nanos.checked_div(u128::from(done)).unwrap_or(0);
-            println!(rt; "{name} {done} {each}")?;
-        }
-        _ => println!(rt; "{name} no memory")?,
+        ) => print_each(rt, name, versions.saturating_add(collections), nanos),
+        _ => Ok(println!(rt; "{name} no memory")?),
     }
-    Ok(())
+}
+
+// The number that the input is, or 0.
+fn count_of(input: &[u8]) -> u64 {
+    let text = from_utf8(input).unwrap_or("");
+    text.trim().parse::<u64>().unwrap_or(0)
 }
 
 /// Times each kind of call on a table with so many collections, each of two records.
 pub fn time_table(rt: &HostRuntime, input: &[u8]) -> Result<()> {
-    let count = from_utf8(input)
-        .unwrap_or("")
-        .trim()
-        .parse::<u64>()
-        .unwrap_or(0);
     let mut table = Table::new(rt.alloc(), RULES);
-    time_calls(rt, &mut table, "save", Kind::Save, count)?;
-    time_calls(rt, &mut table, "update", Kind::Update, count)?;
-    time_calls(rt, &mut table, "read", Kind::Read, count)?;
-    time_calls(rt, &mut table, "read-version", Kind::ReadVersion, count)?;
-    time_calls(rt, &mut table, "wanted", Kind::Wanted, count)?;
-    time_calls(rt, &mut table, "trash", Kind::Trash, count)?;
-    time_calls(rt, &mut table, "restore", Kind::Restore, count)?;
-    time_sweep(rt, &mut table, "sweep-versions")?;
-    time_calls(rt, &mut table, "trash-again", Kind::Trash, count)?;
-    time_sweep(rt, &mut table, "sweep-collections")?;
-    Ok(())
+    let count = count_of(input);
+    time_calls_of_users(rt, &mut table, count)?;
+    time_sweeps(rt, &mut table, count)
+}
+
+fn time_calls_of_users(rt: &HostRuntime, table: &mut Table, count: u64) -> Result<()> {
+    time_calls(rt, table, "save", Kind::Save, count)?;
+    time_calls(rt, table, "update", Kind::Update, count)?;
+    time_calls(rt, table, "read", Kind::Read, count)?;
+    time_calls(rt, table, "read-version", Kind::ReadVersion, count)?;
+    time_calls(rt, table, "wanted", Kind::Wanted, count)?;
+    time_calls(rt, table, "trash", Kind::Trash, count)?;
+    time_calls(rt, table, "restore", Kind::Restore, count)
+}
+
+fn time_sweeps(rt: &HostRuntime, table: &mut Table, count: u64) -> Result<()> {
+    time_sweep(rt, table, "sweep-versions")?;
+    time_calls(rt, table, "trash-again", Kind::Trash, count)?;
+    time_sweep(rt, table, "sweep-collections")
 }
 
 // One update of the first collection; whether it was done.
@@ -271,14 +275,18 @@ fn time_drop(rt: &HostRuntime, table: &mut Table, count: u64) -> Result<()> {
 
 /// Times updates of one collection that has as many versions as the input says: preserved ones, and then those that are kept until a reading; reads of the newest that is preserved; and one update that drops all that are kept.
 pub fn time_versions(rt: &HostRuntime, input: &[u8]) -> Result<()> {
-    let count = from_utf8(input)
-        .unwrap_or("")
-        .trim()
-        .parse::<u64>()
-        .unwrap_or(0);
+    let count = count_of(input);
+    time_preserved(rt, count)?;
+    time_kept(rt, count)
+}
+
+fn time_preserved(rt: &HostRuntime, count: u64) -> Result<()> {
     let mut table = Table::new(rt.alloc(), MANY_VERSIONS);
     time_updates(rt, &mut table, "preserved", count, true)?;
-    time_reads(rt, &mut table, count)?;
+    time_reads(rt, &mut table, count)
+}
+
+fn time_kept(rt: &HostRuntime, count: u64) -> Result<()> {
     let mut table = Table::new(rt.alloc(), MANY_VERSIONS);
     time_updates(rt, &mut table, "kept", count, false)?;
     time_drop(rt, &mut table, count)
