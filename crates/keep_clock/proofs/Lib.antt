@@ -1,0 +1,4 @@
+mod Days
+mod Numbers
+mod Padding
+mod Parts
