@@ -1,0 +1,4 @@
+pub mod Bodies
+pub mod Paths
+pub mod Responses
+pub mod Routes
