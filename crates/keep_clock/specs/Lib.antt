@@ -1,4 +1,5 @@
 pub mod Calendar
 pub mod Dates
 pub mod Instants
+pub mod ListClocks
 pub mod Readings

@@ -1,4 +1,4 @@
--- The bodies of requests: JSON objects with exactly the members of their kind. They are those of a script line, but for the token and the collection, which stand elsewhere in the request; times are instants in text.
+-- The bodies of requests: JSON objects with exactly the members of their kind. They are those of a script line but `open`, `at`, `do`, `token` and `collection`, which stand elsewhere in a request or have no place in one; times are instants in text.
 use Rattle.std.specs.Prelude.{ℕ, List, Option, None, Some, is_some, option_and_then, option_map, if◌then◌else◌, codes, Bool, false}
 use Rattle.serde_json.specs.Data.{Data}
 use Rattle.serde_json.specs.Find.{get}

@@ -1,4 +1,4 @@
--- What a request asks: a task, a query to one device, or nothing, where it is refused. The tests come in the order path, method, token, body.
+-- What a request asks: a task, a query to one device, or nothing, where it is refused. The tests come in the order path, method, system token (where one is wanted), body.
 use Rattle.std.specs.Prelude.{ℕ, ⊤, ◌<◌, List, [], length, Option, None, Some, Result, Ok, Err, unwrap_or, if◌then◌else◌, codes}
 use Rattle.std.specs.Str.{bytes_eq}
 use Rattle.keep_spec.specs.Digest.{digest_of}

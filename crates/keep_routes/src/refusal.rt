@@ -1,6 +1,6 @@
 // Why a request isn't done.
 
-/// Why a request asks nothing. They are tested in the order path, method, token, body.
+/// Why a request asks nothing. They are tested in the order path, method, system token (where one is wanted), body.
 #[derive(Clone, Copy, Debug, PartialEq, Eq)]
 pub enum Refusal {
     /// The path names nothing.
